@@ -1,0 +1,2 @@
+pub mod HalfTicks
+pub mod Tie

@@ -1,0 +1,12 @@
+pub mod Nan
+pub mod Values
+pub mod Fields
+pub mod Digits
+pub mod Closest
+pub mod Pattern
+pub mod Rounding
+pub mod NarrowFields
+pub mod WholeRoot
+pub mod RootFields
+pub mod ExpSteps
+pub mod RootNear

@@ -1,0 +1,5 @@
+pub mod Values
+pub mod Narrow
+pub mod Root
+pub mod Exp
+pub mod Series

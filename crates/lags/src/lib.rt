@@ -1,0 +1,1 @@
+// The lags, their poles, and the moment through a lag.

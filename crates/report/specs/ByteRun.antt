@@ -1,0 +1,84 @@
+-- The byte run: 01, "The byte run". "All fields 32-bit, big-endian."
+use Prim.Native.Nat.{ℕ, zero, suc, _+_, _*_, _/_, _%_}
+use mathlib.Core.Bool.{Bool, true, false, _&&_}
+use mathlib.Core.List.{List, [], _∷_, _++_, map}
+use lib.Dec.{leb, eqb}
+use lib.ListN.{length, getD, drop}
+use lib.Ieee.{Float, binary32, ofBits}
+use Rattle.identify.specs.declared.IdentifyConfig.{IdentifyConfig}
+use Rattle.identify.specs.declared.Noisy.{Noisy}
+use Rattle.identify.specs.declared.Noisy.the-variants.{Absent, Present}
+use Rattle.identify.specs.Rules.{broken}
+use Rattle.identify.specs.Probe.{Call, Reply, offset, refused, fresh, replies}
+use Rattle.account.specs.Account.{opened, account}
+use Rattle.report.specs.Report.{reportBytes, wordBytes, wordOf, ofAccount}
+
+-- the word at byte i, and the float that it stands for; every NaN pattern is NaN
+unfoldable pub wordAt : List ℕ → ℕ → ℕ
+wordAt bytes i = ((getD bytes i 0 * 256 + getD bytes (i + 1) 0) * 256 + getD bytes (i + 2) 0) * 256 + getD bytes (i + 3) 0
+
+unfoldable pub floatAt : List ℕ → ℕ → Float
+floatAt bytes i = ofBits binary32 (wordAt bytes i)
+
+-- "flag (nonzero: extension), its amplitude, its duration"
+unfoldable pub extensionOf : ℕ → List ℕ → Noisy
+extensionOf zero bytes = Absent
+extensionOf (suc flag) bytes = Present (record { amplitude = floatAt bytes 16; «duration_s» = floatAt bytes 20 })
+
+-- "Configuration: amplitude, duration_s, washout_tc_s, flag, .."
+unfoldable pub configOf : List ℕ → IdentifyConfig
+configOf bytes = record {
+  amplitude = floatAt bytes 0;
+  «duration_s» = floatAt bytes 4;
+  «washout_tc_s» = floatAt bytes 8;
+  noisy = extensionOf (wordAt bytes 12) bytes;
+}
+
+-- "Call: dt, rate, moment": the call at byte i
+unfoldable pub callAt : List ℕ → ℕ → Call
+callAt bytes i = record { dt = floatAt bytes i; rate = floatAt bytes (i + 4); moment = floatAt bytes (i + 8) }
+
+-- the first n calls
+unfoldable pub callsTo : List ℕ → ℕ → List Call
+callsTo bytes zero = []
+callsTo bytes (suc n) = callsTo bytes n ++ (callAt bytes (12 * n) ∷ [])
+
+unfoldable pub callsOf : List ℕ → List Call
+callsOf bytes = callsTo bytes (length bytes / 12)
+
+-- "one offset per call; a NaN offset is 7FC00000, a refused call writes 7FC00000 + its number and the run goes on"
+unfoldable pub replyWord : Reply → ℕ
+replyWord (offset x) = wordOf x
+replyWord (refused n) = 0x7fc0_0000 + n
+
+-- "Output: report, then one offset per call"
+unfoldable pub written : IdentifyConfig → List Call → List ℕ
+written c calls = reportBytes (ofAccount (account (opened c) calls)) ++ wordBytes (map replyWord (replies (fresh c) calls))
+
+-- "9: configuration not 24 bytes, calls not a multiple of 12, or output below 36 + 4 bytes a call"
+unfoldable pub sized : List ℕ → List ℕ → List ℕ → Bool
+sized config calls output =
+    eqb (length config) 24 && eqb (length calls % 12) 0 && leb (36 + 4 * (length calls / 12)) (length output)
+
+-- what a run answers, and the output as it leaves it
+pub record Ran : Type 0 where
+  pub result : ℕ
+  pub output : List ℕ
+
+-- over the bytes that stood there; "Later bytes are untouched."
+unfoldable pub onto : List ℕ → List ℕ → List ℕ
+onto bytes output = bytes ++ drop (length bytes) output
+
+-- "9, and 1 to 5 in a byte run, write no byte"
+unfoldable pub ran : ℕ → IdentifyConfig → List Call → List ℕ → Ran
+ran (suc n) c calls output = record { result = suc n; output = output }
+ran zero c calls output = record { result = 0; output = onto (written c calls) output }
+
+-- 9 "precedes all"
+unfoldable pub runIf : Bool → List ℕ → List ℕ → List ℕ → Ran
+runIf false config calls output = record { result = 9; output = output }
+runIf true config calls output = ran (broken (configOf config)) (configOf config) (callsOf calls) output
+
+-- "it returns 0, or the number of 1 to 5 or 9"
+unfoldable pub byteRun : List ℕ → List ℕ → List ℕ → Ran
+byteRun config calls output = runIf (sized config calls output) config calls output

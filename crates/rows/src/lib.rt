@@ -1,0 +1,1 @@
+// The rows of the recorded fit, and their sums for each delay.
