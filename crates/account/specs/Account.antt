@@ -12,12 +12,12 @@ use Rattle.window.specs.Runs.{runsFrom}
 use Rattle.recorded.specs.declared.Classified.{Classified}
 use Rattle.recorded.specs.declared.Classified.the-variants.{Recorded, Integrated, Unexcited, Saturated}
 use Rattle.recorded.specs.Classify.{classify}
-use Rattle.identify.specs.declared.IdentifyConfig.{IdentifyConfig}
-use Rattle.identify.specs.declared.IdentifyExtension.{IdentifyExtension}
-use Rattle.identify.specs.declared.Noisy.{Noisy}
-use Rattle.identify.specs.declared.Noisy.the-variants.{Absent, Present}
-use Rattle.identify.specs.Rules.{refusal}
-use Rattle.identify.specs.Probe.{Call}
+use Rattle.account.specs.declared.IdentifyConfig.{IdentifyConfig}
+use Rattle.account.specs.declared.IdentifyExtension.{IdentifyExtension}
+use Rattle.account.specs.declared.Noisy.{Noisy}
+use Rattle.account.specs.declared.Noisy.the-variants.{Absent, Present}
+use Rattle.account.specs.Rules.{refusal}
+use Rattle.account.specs.Probe.{Call}
 
 pub record Entry : Type 0 where
   pub rate : Float

@@ -1,1 +1,3 @@
+pub mod Rules
+pub mod Probe
 pub mod Account

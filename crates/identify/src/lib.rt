@@ -1,33 +1,8 @@
-// The probe: a configuration, what one call of `step` needs and leaves, and where the probe stands.
-use delay::RateModel;
+// The probe: one axis, from its configuration to its status.
+use account::IdentifyStatus;
+use account::Noisy;
 use sweep::SquareSweep;
 use window::Window;
-
-// How a probe goes on where a window is noisy: the amplitude of later ticks, and the whole length in s.
-pub struct IdentifyExtension {
-    pub amplitude: f32,
-    pub duration_s: f32,
-}
-
-pub enum Noisy {
-    Absent,
-    Present(IdentifyExtension),
-}
-
-pub struct IdentifyConfig {
-    pub amplitude: f32,
-    pub duration_s: f32,
-    pub washout_tc_s: f32,
-    pub noisy: Noisy,
-}
-
-// Where a probe stands: running, with the elapsed seconds; done, with the model; or given up.
-pub enum IdentifyStatus {
-    Running(f32),
-    Done(RateModel),
-    Unexcited,
-    Saturated,
-}
 
 // A probe between two calls. The window's samples stand in arrays that the caller lends.
 pub struct IdentifyProbe {

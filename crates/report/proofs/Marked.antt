@@ -7,8 +7,8 @@ use lib.ListN.{replicate, length}
 use Rattle.report.specs.ByteRun.{Ran, byteRun, runIf, ran, onto, sized, written, replyWord, callsOf, callsTo, callAt, configOf, extensionOf, floatAt, wordAt}
 use Rattle.report.specs.Report.{reportBytes, wordBytes, bytesOf, packed, fieldsOf, floatsOf, delayOf, kindOf, ofAccount}
 use Rattle.account.specs.Account.{opened, entry, counted, judged, ended, accept, time, turned, continue, next}
-use Rattle.identify.specs.Probe.{clock, fresh, finished, stands, takes, extend, close, tick, answer, step, replies}
-use Rattle.identify.specs.Rules.{positive, nonZero, tooLong, brokenExtension, broken, overrun, refusal}
+use Rattle.account.specs.Probe.{clock, fresh, finished, stands, takes, extend, close, tick, answer, step, replies}
+use Rattle.account.specs.Rules.{positive, nonZero, tooLong, brokenExtension, broken, overrun, refusal}
 use Rattle.recorded.specs.Classify.{effectOf, entryOf, modelOf, fitAt, fitOf, entries, solvedAt, rowsDt, fitRecorded, classOf, classify}
 use Rattle.rows.specs.Rows.{target, regressors, product, projection, each, sumsBy, noSums, sumRows, windowSums}
 use Rattle.least_squares.specs.Cholesky.{fillDown, less, reduced, factorEntry, factor, above, forwardEntry, forward, backwardEntry, backward}

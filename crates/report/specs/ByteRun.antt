@@ -5,11 +5,11 @@ use mathlib.Core.List.{List, [], _∷_, _++_, map}
 use lib.Dec.{leb, eqb}
 use lib.ListN.{length, getD, drop}
 use lib.Ieee.{Float, binary32, ofBits}
-use Rattle.identify.specs.declared.IdentifyConfig.{IdentifyConfig}
-use Rattle.identify.specs.declared.Noisy.{Noisy}
-use Rattle.identify.specs.declared.Noisy.the-variants.{Absent, Present}
-use Rattle.identify.specs.Rules.{broken}
-use Rattle.identify.specs.Probe.{Call, Reply, offset, refused, fresh, replies}
+use Rattle.account.specs.declared.IdentifyConfig.{IdentifyConfig}
+use Rattle.account.specs.declared.Noisy.{Noisy}
+use Rattle.account.specs.declared.Noisy.the-variants.{Absent, Present}
+use Rattle.account.specs.Rules.{broken}
+use Rattle.account.specs.Probe.{Call, Reply, offset, refused, fresh, replies}
 use Rattle.account.specs.Account.{opened, account}
 use Rattle.report.specs.Report.{reportBytes, wordBytes, wordOf, ofAccount}
 

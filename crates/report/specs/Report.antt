@@ -10,9 +10,9 @@ use Rattle.window.specs.Walk.{many, isHeld, isWarm, isRow}
 use Rattle.window.specs.Runs.{heldOf, warmOf, rowsOf}
 use Rattle.delay.specs.declared.RateModel.{RateModel}
 use Rattle.delay.specs.HalfTicks.{wholeTicks}
-use Rattle.identify.specs.declared.IdentifyStatus.{IdentifyStatus}
-use Rattle.identify.specs.declared.IdentifyStatus.the-variants.{Running, Done, Unexcited, Saturated}
-use Rattle.identify.specs.Probe.{Probe, Standing, clock, stands}
+use Rattle.account.specs.declared.IdentifyStatus.{IdentifyStatus}
+use Rattle.account.specs.declared.IdentifyStatus.the-variants.{Running, Done, Unexcited, Saturated}
+use Rattle.account.specs.Probe.{Probe, Standing, clock, stands}
 use Rattle.account.specs.Account.{Account, ratesOf, momentsOf, marksOf, runsOf}
 
 -- what a report says

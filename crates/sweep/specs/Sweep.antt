@@ -1,5 +1,6 @@
 -- The sweep: 01, "One tick, from dt to offset".
 use Prim.Native.Nat.{ℕ, zero, suc, _-_, _%_}
+use mathlib.Core.Path.{_≡_}
 use mathlib.Core.Bool.{Bool, true, false, not, cond}
 use lib.Dec.{ltb}
 use lib.Ieee.{Float, binary32, ofBits, add, sub, mul, div, le}
@@ -53,9 +54,9 @@ passDue zero b elapsed s = s
 passDue (suc n) false elapsed s = s
 passDue (suc n) true elapsed s = passDue n (due elapsed (passEdge s)) elapsed (passEdge s)
 
--- The edge at which the count stops. Its time lies past 4,096 s, so no accepted call reaches it.
+-- The edge at which the count stops. No half period is below an eighth of a second, so no call up to 4,096 s reaches it.
 abbrev pub lastEdge : ℕ
-lastEdge = 10_240
+lastEdge = 32_769
 
 -- every edge up to the elapsed time passed
 unfoldable pub passEdges : Float → SquareSweep → SquareSweep
@@ -99,3 +100,8 @@ swept s dt = record { offset = sub binary32 (square s) (washed s dt); sweep = wi
 -- one tick of the sweep: dt later, at the elapsed time
 unfoldable pub nextSweep : SquareSweep → Float → Float → Swept
 nextSweep s dt elapsed = swept (passEdges elapsed s) dt
+
+-- 01's loop, with no bound on the edges: the sweep once no edge is due
+pub data While (elapsed : Float) : SquareSweep → SquareSweep → Type 0 where
+  stop : {s : SquareSweep} → due elapsed s ≡ false → While elapsed s s
+  pass : {s t : SquareSweep} → due elapsed s ≡ true → While elapsed (passEdge s) t → While elapsed s t

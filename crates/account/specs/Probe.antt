@@ -14,13 +14,13 @@ use Rattle.recorded.specs.Classify.{classify}
 use Rattle.integrated.specs.declared.Fitted.{Fitted}
 use Rattle.integrated.specs.declared.Fitted.the-variants as fitted
 use Rattle.integrated.specs.Integrated.{fitIntegrated}
-use Rattle.identify.specs.declared.IdentifyConfig.{IdentifyConfig}
-use Rattle.identify.specs.declared.IdentifyExtension.{IdentifyExtension}
-use Rattle.identify.specs.declared.Noisy.{Noisy}
-use Rattle.identify.specs.declared.Noisy.the-variants.{Absent, Present}
-use Rattle.identify.specs.declared.IdentifyStatus.{IdentifyStatus}
-use Rattle.identify.specs.declared.IdentifyStatus.the-variants as status
-use Rattle.identify.specs.Rules.{refusal}
+use Rattle.account.specs.declared.IdentifyConfig.{IdentifyConfig}
+use Rattle.account.specs.declared.IdentifyExtension.{IdentifyExtension}
+use Rattle.account.specs.declared.Noisy.{Noisy}
+use Rattle.account.specs.declared.Noisy.the-variants.{Absent, Present}
+use Rattle.account.specs.declared.IdentifyStatus.{IdentifyStatus}
+use Rattle.account.specs.declared.IdentifyStatus.the-variants as status
+use Rattle.account.specs.Rules.{refusal}
 
 -- one call of `step`
 pub record Call : Type 0 where

@@ -5,10 +5,10 @@ use mathlib.Core.Option.{Option, none, some}
 use lib.Dec.{leb}
 use lib.Ieee.{Float, binary32, add, lt, eq}
 use Rattle.float.specs.Values.{zero32, whole32, finite}
-use Rattle.identify.specs.declared.IdentifyConfig.{IdentifyConfig}
-use Rattle.identify.specs.declared.IdentifyExtension.{IdentifyExtension}
-use Rattle.identify.specs.declared.Noisy.{Noisy}
-use Rattle.identify.specs.declared.Noisy.the-variants.{Absent, Present}
+use Rattle.account.specs.declared.IdentifyConfig.{IdentifyConfig}
+use Rattle.account.specs.declared.IdentifyExtension.{IdentifyExtension}
+use Rattle.account.specs.declared.Noisy.{Noisy}
+use Rattle.account.specs.declared.Noisy.the-variants.{Absent, Present}
 
 -- "positive and finite"
 unfoldable pub positive : Float → Bool
