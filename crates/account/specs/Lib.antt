@@ -1,3 +1,4 @@
 pub mod Rules
 pub mod Probe
 pub mod Account
+pub mod Claim

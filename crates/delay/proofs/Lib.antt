@@ -1,1 +1,3 @@
 pub mod Marked
+pub mod First
+pub mod Winner

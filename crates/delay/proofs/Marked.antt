@@ -1,11 +1,10 @@
 -- M4 to M9 of 01. An entry is (effect, residual).
 use mathlib.Core.Path.{_≡_, refl}
 use mathlib.Core.Bool.{false}
-use mathlib.Core.List.{List, [], _∷_, _++_}
+use mathlib.Core.List.{[], _∷_, _++_}
 use lib.ListN.{replicate}
 use lib.Ieee.{Float, inf, binary32, ofBits, add, mul, lt, le, ne}
 use Rattle.float.specs.Values.{zero32, one32, least}
-use Rattle.delay.specs.declared.Entry.{Entry}
 use Rattle.delay.specs.declared.Entry.the-variants.{Missing, Fit}
 use Rattle.delay.specs.declared.Position.the-variants.{Nowhere, At}
 use Rattle.delay.specs.Tie.{considered, residuals, lesser, leastTo, within, firstFrom, underBar, shortestTied, delayToFit}

@@ -10,3 +10,5 @@ pub mod WholeRoot
 pub mod RootFields
 pub mod ExpSteps
 pub mod RootNear
+pub mod Unit
+pub mod ExpUnit

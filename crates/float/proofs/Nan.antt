@@ -1,10 +1,10 @@
--- The NaN is the one value that differs from itself, and its patterns in binary32 are those above the infinity's, the sign aside.
+-- The NaN is the one value that differs from itself, and its patterns are those above the infinity's, the sign aside.
 use mathlib.Core.Path.{_≡_, refl, sym, _∙_, subst}
 use mathlib.Core.Bool.{Bool, true, false, not, true≢false}
-use Prim.Native.Nat.{ℕ, _%_, _^_, _≤_, _<_}
+use Prim.Native.Nat.{ℕ, _*_, _%_, _≤_, _<_}
 use borrow.Author.Tests.{lt-ltb, le-ltb}
 use lib.Dec.{T}
-use lib.Ieee.{Float, nan, inf, fin, binary32, ofBits, nanBits, isNan, ne}
+use lib.Ieee.{Float, Format, nan, inf, fin, hid, ones, top, ofBits, nanBits, isNan, ne}
 use lib.Ieee.Bits.{nanBits-is, nanBits-above}
 use lib.Ieee.Compare.{differs-from-itself, nan-differs}
 
@@ -23,8 +23,8 @@ only-nan nan e = refl
 only-nan (inf s) e = absurd (true≢false (sym e))
 only-nan (fin s m k) e = absurd (true≢false (sym e))
 
-pub nan-word : (w : ℕ) → 0x7f80_0000 < w % 2 ^ 31 → ofBits binary32 w ≡ nan
-nan-word w h = only-nan (ofBits binary32 w) (sym (nanBits-is binary32 w) ∙ nanBits-above binary32 w ∙ lt-ltb 0x7f80_0000 (w % 2 ^ 31) h)
+pub nan-word : (f : Format) (w : ℕ) → ones f * hid f < w % top f → ofBits f w ≡ nan
+nan-word f w h = only-nan (ofBits f w) (sym (nanBits-is f w) ∙ nanBits-above f w ∙ lt-ltb (ones f * hid f) (w % top f) h)
 
-pub no-nan-word : (w : ℕ) → w % 2 ^ 31 ≤ 0x7f80_0000 → T (not (nanBits binary32 w))
-no-nan-word w h = subst (λ (b : Bool). T (not b)) (sym (nanBits-above binary32 w ∙ le-ltb 0x7f80_0000 (w % 2 ^ 31) h)) tt
+pub no-nan-word : (f : Format) (w : ℕ) → w % top f ≤ ones f * hid f → T (not (nanBits f w))
+no-nan-word f w h = subst (λ (b : Bool). T (not b)) (sym (nanBits-above f w ∙ le-ltb (ones f * hid f) (w % top f) h)) tt

@@ -95,7 +95,8 @@ fn smaller(a: u64, b: u64) -> u64
     if a < b { a } else { b }
 }
 
-// q * 2^k times 2^-149, the smallest f32. A q of 2^24 carries into the exponent, and what is too large becomes infinity's pattern.
+// q * 2^k times 2^-149, the smallest f32. A q of 2^24 carries into the exponent, and what is too
+// large becomes infinity's pattern.
 fn packed(negative: bool, q: u64, k: u64) -> f32
     requires { ⌜ (q ≤ 2 ^ 24) × (k < 2 ^ 11) × ((k ≡ 0) ⊎ (2 ^ 23 ≤ q)) ⌝ }
     ensures { λ r. ⌜ r ≡ units binary32 negative q k ⌝ }
@@ -187,7 +188,8 @@ fn root_of(m: u64, e: u64) -> f32
     packed(false, root, k)
 }
 
-// The nearest f32 to the square root of a positive value; 0 of 0, -0 of -0, infinity of infinity, NaN of any other negative value.
+// The nearest f32 to the square root of a positive value (`nearest-root`, proofs/RootNear.antt);
+// 0 of 0, -0 of -0, infinity of infinity, NaN of any other negative value.
 pub fn root(x: f32) -> f32
     ensures { λ r. ⌜ r ≡ rooted x ⌝ }
 {
@@ -236,7 +238,8 @@ fn squared_ten_times(x: f64) -> f64
     power
 }
 
-// e^x for x <= 0, in f64: 0 below -104, else the series at x/1024, squared ten times and narrowed.
+// e^x for x <= 0: 0 below -104, else the series at x/1024 in f64, squared ten times and narrowed.
+// Its answer for such an x lies in 0 to 1 (`exp-unit`, proofs/ExpUnit.antt).
 pub fn exp(x: f32) -> f32
     ensures { λ r. ⌜ r ≡ expOf x ⌝ }
 {

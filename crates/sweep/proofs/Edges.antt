@@ -16,7 +16,7 @@ use lib.Ieee.Order.{round-mono}
 use lib.Ieee.Positive.{num, den, den-pos, positive, positive-of-value, values-of-le, own-value, le-trans-positive, above, above-of-le, between}
 use Rattle.float.specs.Values.{one32, whole32}
 use Rattle.sweep.specs.declared.SquareSweep.{SquareSweep}
-use Rattle.sweep.specs.Sweep.{halfPeriod, tenth, sixTenths, started, passEdge, due, passDue, passEdges, lastEdge, While, stop, pass}
+use Rattle.sweep.specs.Sweep.{halfPeriod, tenth, sixTenths, started, passEdge, due, passDue, passEdges, lastEdge, While, stop, pass, withWashout, withAmplitude, swept, nextSweep}
 
 -- k eighths of a second
 eighths : ℕ → Float
@@ -182,7 +182,7 @@ too-late x e l h k = go x (above-of-le last x last-positive l) l k
 pub Timed : SquareSweep → Type 0
 Timed s = T (le (eighths (suc (s .edge))) (s .«next_edge_s»))
 
-pub timed-start : (amplitude tc : Float) (high : Bool) → Timed (started amplitude tc high)
+timed-start : (amplitude tc : Float) (high : Bool) → Timed (started amplitude tc high)
 unfolding Timed started
 timed-start amplitude tc high = unfold long in and-r (positive (halfPeriod 0)) (le (eighths 1) (halfPeriod 0)) (half-long 0)
 
@@ -204,11 +204,15 @@ not-due elapsed s h e t = go (le (s .«next_edge_s») elapsed) (too-late (s .«n
     go true f = absurd (f tt)
     go false f = refl
 
--- what the count leaves: the end of the loop, before the last edge and in time
+-- a sweep before its last edge, with its next edge in time
+pub record Safe (s : SquareSweep) : Type 0 where
+  pub inside : s .edge < lastEdge
+  pub timed : Timed s
+
+-- what the count leaves: the end of the loop, and a safe sweep
 pub record Passed (elapsed : Float) (s t : SquareSweep) : Type 0 where
   pub loop : While elapsed s t
-  pub inside : t .edge < lastEdge
-  pub timed : Timed t
+  pub safe : Safe t
 
 -- an edge that is due is not the last one
 due-inside : (elapsed : Float) (s : SquareSweep) → lt (whole32 4096) elapsed ≡ false → s .edge < lastEdge → Timed s → due elapsed s ≡ true → suc (s .edge) < lastEdge
@@ -225,12 +229,25 @@ counts : (n : ℕ) (b : Bool) (elapsed : Float) (s : SquareSweep) → lt (whole3
     → due elapsed s ≡ b → Passed elapsed s (passDue n b elapsed s)
 unfolding passDue passEdge
 counts zero b elapsed s h e i t d = absurd (omega arith)
-counts (suc n) false elapsed s h e i t d = record { loop = stop d; inside = i; timed = t }
+counts (suc n) false elapsed s h e i t d = record { loop = stop d; safe = record { inside = i; timed = t } }
 counts (suc n) true elapsed s h e i t d =
     let j = due-inside elapsed s h i t d in
     let r = counts n (due elapsed (passEdge s)) elapsed (passEdge s) h (omega arith) j (timed-pass s i t) refl in
-    record { loop = pass d (r .loop); inside = r .inside; timed = r .timed }
+    record { loop = pass d (r .loop); safe = r .safe }
 
-pub passes : (elapsed : Float) (s : SquareSweep) → lt (whole32 4096) elapsed ≡ false → s .edge < lastEdge → Timed s → Passed elapsed s (passEdges elapsed s)
+pub passes : (elapsed : Float) (s : SquareSweep) → lt (whole32 4096) elapsed ≡ false → Safe s → Passed elapsed s (passEdges elapsed s)
 unfolding passEdges
-passes elapsed s h i t = counts (lastEdge - s .edge) (due elapsed s) elapsed s h (omega arith) i t refl
+passes elapsed s h r = counts (lastEdge - s .edge) (due elapsed s) elapsed s h (omega (arith, r .inside)) (r .inside) (r .timed) refl
+
+-- ---- a sweep is safe from its start on, whatever its ticks and amplitudes
+pub safe-start : (amplitude tc : Float) (high : Bool) → Safe (started amplitude tc high)
+unfolding started
+safe-start amplitude tc high = record { inside = lit< tt; timed = timed-start amplitude tc high }
+
+pub safe-next : (s : SquareSweep) (dt elapsed : Float) → lt (whole32 4096) elapsed ≡ false → Safe s → Safe (nextSweep s dt elapsed .sweep)
+unfolding nextSweep swept withWashout Timed
+safe-next s dt elapsed h r = let t = passes elapsed s h r .safe in record { inside = t .inside; timed = t .timed }
+
+pub safe-amplitude : (s : SquareSweep) (amplitude : Float) → Safe s → Safe (withAmplitude s amplitude)
+unfolding withAmplitude Timed
+safe-amplitude s amplitude r = record { inside = r .inside; timed = r .timed }

@@ -1,6 +1,8 @@
 -- `float::from_word` meets its contract: its test tells the NaN patterns from the others, which are read as they are.
 use mathlib.Core.Path.{refl, sym, _∙_}
+use native.Mathlib.Omega.{arith}
 use borrow.Author.Needs.{needs}
+use lib.Ieee.{binary32}
 use Rattle.float.proofs.Nan.{nan-word, no-nan-word}
 use Rattle.float.proofs.from_word.Statement.{statement}
 use Rattle.float.proofs.from_word.Tie as tie
@@ -9,10 +11,10 @@ not-a-number-requires : tie.Need-not-a-number-requires
 not-a-number-requires c κs = search needs
 
 returns : tie.Need-returns
-returns c = c .not-a-number .ensures ∙ sym (nan-word (c .before .before .args .w) (c .before .if1 .taken))
+returns c = c .not-a-number .ensures ∙ sym (nan-word binary32 (c .before .before .args .w) (omega (arith, c .before .if1 .taken)))
 
 float-from-bits-result : tie.Need-float-from-bits-result
-float-from-bits-result c = no-nan-word (c .before .args .w) (c .if1 .left)
+float-from-bits-result c = no-nan-word binary32 (c .before .args .w) (omega (arith, c .if1 .left))
 
 returns-2 : tie.Need-returns-2
 returns-2 c = refl

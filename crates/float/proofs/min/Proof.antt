@@ -1,4 +1,4 @@
--- `float::min` meets its contract: a NaN is the one value that differs from itself, and past that test the smaller one is picked, b where a is the NaN.
+-- `float::min` meets its contract: an a that differs from itself is a NaN, and b is the answer. Past that test it is b where b is smaller, and else a, for a NaN b too.
 use Rattle.float.proofs.Values.{least-nan, least-second, least-first}
 use Rattle.float.proofs.min.Statement.{statement}
 use Rattle.float.proofs.min.Tie as tie
