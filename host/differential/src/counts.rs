@@ -1,0 +1,102 @@
+//! What a run has seen.
+
+use std::collections::BTreeMap;
+
+use reference::checked::{Answer, Ending};
+
+#[derive(Default)]
+pub struct Counts {
+    lists: u64,
+    calls: u64,
+    families: BTreeMap<&'static str, BTreeMap<Ending, u64>>,
+    half_ticks_recorded: BTreeMap<usize, u64>,
+    half_ticks_integrated: BTreeMap<usize, u64>,
+    rounds: BTreeMap<u32, u64>,
+    turned_back: [u64; 3],
+    extended: u64,
+}
+
+impl Counts {
+    pub fn add(&mut self, family: &'static str, calls: usize, answer: &Answer) {
+        self.lists += 1;
+        self.calls += calls as u64;
+        *self
+            .families
+            .entry(family)
+            .or_default()
+            .entry(answer.ending)
+            .or_default() += 1;
+        if let Some(half_ticks) = answer.half_ticks {
+            let seen = if answer.ending.integrated() {
+                &mut self.half_ticks_integrated
+            } else {
+                &mut self.half_ticks_recorded
+            };
+            *seen.entry(half_ticks).or_default() += 1;
+        }
+        if answer.gain_fits > 0 && answer.half_ticks.is_some() {
+            *self
+                .rounds
+                .entry((answer.gain_fits - 2580) / 2)
+                .or_default() += 1;
+        }
+        for (sum, count) in self.turned_back.iter_mut().zip(answer.turned_back) {
+            *sum += u64::from(count);
+        }
+        self.extended += u64::from(answer.extended);
+    }
+
+    pub fn lists(&self) -> u64 {
+        self.lists
+    }
+
+    pub fn integrated(&self) -> u64 {
+        let endings = self.families.values().flatten();
+        endings
+            .filter(|(ending, _)| ending.integrated())
+            .map(|(_, count)| count)
+            .sum()
+    }
+
+    /// The table, families down and endings across, then the rest.
+    pub fn print(&self) {
+        println!("lists per family and ending:");
+        for (family, endings) in &self.families {
+            let total: u64 = endings.values().sum();
+            let parts: Vec<String> = endings
+                .iter()
+                .map(|(ending, count)| format!("{} {count}", ending.name()))
+                .collect();
+            println!("  {family:<28} {total:>8}  {}", parts.join("; "));
+        }
+        println!("lists per ending:");
+        for ending in Ending::ALL {
+            let count: u64 = self
+                .families
+                .values()
+                .filter_map(|endings| endings.get(&ending))
+                .sum();
+            println!("  {:<28} {count:>8}", ending.name());
+        }
+        println!("delays seen, in half ticks: lists");
+        println!("  recorded   {}", pairs(&self.half_ticks_recorded));
+        println!("  integrated {}", pairs(&self.half_ticks_integrated));
+        println!("rounds of the refinement: lists\n  {}", pairs(&self.rounds));
+        let [six, seven, eight] = self.turned_back;
+        println!("calls turned back: {six} by 6, {seven} by 7, {eight} by 8");
+        println!("lists that went on into an extension: {}", self.extended);
+        println!(
+            "lists that entered the integrated fit: {}",
+            self.integrated()
+        );
+        println!("{} lists, {} calls", self.lists, self.calls);
+    }
+}
+
+fn pairs<T: std::fmt::Display>(counts: &BTreeMap<T, u64>) -> String {
+    let pairs: Vec<String> = counts
+        .iter()
+        .map(|(key, count)| format!("{key}: {count}"))
+        .collect();
+    pairs.join(", ")
+}

@@ -1,0 +1,115 @@
+//! The families of lists.
+
+mod calls;
+mod flights;
+mod made;
+mod windows;
+
+use crate::List;
+use crate::random::Random;
+
+/// A kind of list, made from random numbers.
+pub struct Family {
+    pub name: &'static str,
+    /// How often it is made, against the others.
+    pub weight: u64,
+    pub make: fn(&mut Random, &'static str) -> List,
+}
+
+pub const FAMILIES: [Family; 19] = [
+    Family {
+        name: "clean flight",
+        weight: 10,
+        make: flights::clean_flight,
+    },
+    Family {
+        name: "noisy flight",
+        weight: 8,
+        make: flights::noisy_flight,
+    },
+    Family {
+        name: "noisy flight, extended",
+        weight: 6,
+        make: flights::extended_flight,
+    },
+    Family {
+        name: "extended, then otherwise",
+        weight: 3,
+        make: flights::extended_then_otherwise,
+    },
+    Family {
+        name: "saturated around a fifth",
+        weight: 6,
+        make: flights::saturated_share,
+    },
+    Family {
+        name: "held, runs of 11 to 13",
+        weight: 6,
+        make: windows::held_runs,
+    },
+    Family {
+        name: "wild stretch between held",
+        weight: 4,
+        make: windows::wild_stretch,
+    },
+    Family {
+        name: "ties and constants",
+        weight: 6,
+        make: windows::ties,
+    },
+    Family {
+        name: "nearly constant",
+        weight: 4,
+        make: windows::nearly_constant,
+    },
+    Family {
+        name: "overflowing residual",
+        weight: 4,
+        make: windows::overflowing,
+    },
+    Family {
+        name: "at the noise limit",
+        weight: 2,
+        make: windows::noise_limit,
+    },
+    Family {
+        name: "wild values",
+        weight: 8,
+        make: calls::wild_values,
+    },
+    Family {
+        name: "window of 0 to 30",
+        weight: 8,
+        make: windows::short_window,
+    },
+    Family {
+        name: "window of 12, tiny squares",
+        weight: 2,
+        make: windows::tiny_twelve,
+    },
+    Family {
+        name: "more than 2,048 ticks",
+        weight: 1,
+        make: flights::full_window,
+    },
+    Family {
+        name: "long dt",
+        weight: 6,
+        make: calls::long_dt,
+    },
+    Family {
+        name: "refused calls within",
+        weight: 6,
+        make: calls::refused_calls,
+    },
+    Family {
+        name: "bad configuration",
+        weight: 8,
+        make: calls::bad_config,
+    },
+    Family {
+        name: "bad buffer sizes",
+        weight: 4,
+        make: calls::bad_buffers,
+    },
+];

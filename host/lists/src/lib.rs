@@ -1,0 +1,95 @@
+//! Lists of calls from a seed, in families.
+
+mod families;
+mod flight;
+pub mod random;
+
+pub use families::{FAMILIES, Family};
+pub use reference::byte_run::Call;
+
+use random::Random;
+
+/// A configuration, as the byte run's 24 bytes hold it.
+#[derive(Clone, Copy, Debug, PartialEq)]
+pub struct Config {
+    pub amplitude: f32,
+    pub duration_s: f32,
+    pub washout_tc_s: f32,
+    /// Nonzero: an extension.
+    pub flag: u32,
+    pub extension_amplitude: f32,
+    pub extension_duration_s: f32,
+}
+
+impl Config {
+    pub fn extended(&self) -> bool {
+        self.flag != 0
+    }
+
+    pub fn bytes(&self) -> Vec<u8> {
+        let words = [
+            self.amplitude.to_bits(),
+            self.duration_s.to_bits(),
+            self.washout_tc_s.to_bits(),
+            self.flag,
+            self.extension_amplitude.to_bits(),
+            self.extension_duration_s.to_bits(),
+        ];
+        words.iter().flat_map(|word| word.to_be_bytes()).collect()
+    }
+}
+
+/// The bytes of some calls.
+pub fn call_bytes(calls: &[Call]) -> Vec<u8> {
+    let words = calls
+        .iter()
+        .flat_map(|call| [call.dt, call.rate, call.moment]);
+    words
+        .flat_map(|value| value.to_bits().to_be_bytes())
+        .collect()
+}
+
+/// The input of one byte run.
+#[derive(Clone, Debug, PartialEq)]
+pub struct List {
+    pub family: &'static str,
+    pub config: Vec<u8>,
+    pub calls: Vec<u8>,
+    pub output_len: usize,
+}
+
+impl List {
+    /// A run with room for its output and now and then some bytes more.
+    fn new(random: &mut Random, family: &'static str, config: &Config, calls: &[Call]) -> List {
+        let more = if random.once_in(4) {
+            random.below(9)
+        } else {
+            0
+        };
+        List {
+            family,
+            config: config.bytes(),
+            calls: call_bytes(calls),
+            output_len: reference::byte_run::written_len(calls.len()) + more,
+        }
+    }
+}
+
+/// List `number` of `seed`. The family follows from the number, each as often as its weight.
+pub fn list(seed: u64, number: u64) -> List {
+    let total: u64 = FAMILIES.iter().map(|family| family.weight).sum();
+    let mut place = number % total;
+    for family in &FAMILIES {
+        if place < family.weight {
+            return of_family(family, seed, number);
+        }
+        place -= family.weight;
+    }
+    unreachable!("the place is below the weights' sum")
+}
+
+/// List `number` of `seed` in a family.
+pub fn of_family(family: &Family, seed: u64, number: u64) -> List {
+    let mut random = Random::numbered(seed, number);
+    (family.make)(&mut random, family.name)
+}

@@ -1,0 +1,188 @@
+//! The reference's answer to a list, held against the account of the list.
+
+use crate::access::{self, Class, IdentifyStatus};
+use crate::account::Account;
+use crate::byte_run::{self, calls_of, config_of};
+use crate::probe::{Probe, REPORT_LEN};
+
+/// How a list ends.
+#[derive(Clone, Copy, Debug, PartialEq, Eq, PartialOrd, Ord, Hash)]
+pub enum Ending {
+    Running,
+    DoneRecorded,
+    DoneIntegratedWhole,
+    DoneIntegratedHalf,
+    /// No delay's sums solve, or none wins.
+    UnexcitedNoSolve,
+    /// The integrated fit was entered and found no position, or too few samples.
+    UnexcitedIntegrated,
+    Saturated,
+    /// By the number of 1 to 5 or 9.
+    Refused(u32),
+}
+
+impl Ending {
+    /// All endings that a list can have.
+    pub const ALL: [Ending; 13] = [
+        Ending::Running,
+        Ending::DoneRecorded,
+        Ending::DoneIntegratedWhole,
+        Ending::DoneIntegratedHalf,
+        Ending::UnexcitedNoSolve,
+        Ending::UnexcitedIntegrated,
+        Ending::Saturated,
+        Ending::Refused(1),
+        Ending::Refused(2),
+        Ending::Refused(3),
+        Ending::Refused(4),
+        Ending::Refused(5),
+        Ending::Refused(9),
+    ];
+
+    pub fn name(self) -> String {
+        match self {
+            Ending::Running => "running".into(),
+            Ending::DoneRecorded => "done, recorded".into(),
+            Ending::DoneIntegratedWhole => "done, integrated, whole".into(),
+            Ending::DoneIntegratedHalf => "done, integrated, half".into(),
+            Ending::UnexcitedNoSolve => "Unexcited, no solve".into(),
+            Ending::UnexcitedIntegrated => "Unexcited, integrated".into(),
+            Ending::Saturated => "Saturated".into(),
+            Ending::Refused(number) => format!("refused {number}"),
+        }
+    }
+
+    /// Whether the integrated fit was entered.
+    pub fn integrated(self) -> bool {
+        matches!(
+            self,
+            Ending::DoneIntegratedWhole | Ending::DoneIntegratedHalf | Ending::UnexcitedIntegrated
+        )
+    }
+}
+
+/// The reference's answer to a list.
+pub struct Answer {
+    /// What the byte run returns.
+    pub result: u32,
+    pub ending: Ending,
+    /// The delay of a done probe in half ticks, 2 to 21.
+    pub half_ticks: Option<usize>,
+    /// The gain fits that an ended probe made.
+    pub gain_fits: u32,
+    /// How often each of 6, 7 and 8 turned a call back.
+    pub turned_back: [u32; 3],
+    /// Whether the extension was used and the probe went on.
+    pub extended: bool,
+}
+
+/// Runs the reference over a list, and panics where the account says otherwise.
+pub fn checked_run(config: &[u8], calls: &[u8], output: &mut [u8]) -> Answer {
+    let before = output.to_vec();
+    match byte_run::probe_run(config, calls, output) {
+        Err(result) => {
+            assert!(output == before, "a refused run writes no byte");
+            Answer {
+                result,
+                ending: Ending::Refused(result),
+                half_ticks: None,
+                gain_fits: 0,
+                turned_back: [0; 3],
+                extended: false,
+            }
+        }
+        Ok(probe) => {
+            let account = Account::of(&config_of(config), calls_of(calls));
+            check(&probe, &account, output);
+            let written = REPORT_LEN + 4 * account.turned_back.len();
+            assert!(
+                output[written..] == before[written..],
+                "later bytes are untouched"
+            );
+            Answer {
+                result: 0,
+                ending: ending(&probe, &account),
+                half_ticks: probe.half_ticks(),
+                gain_fits: probe.gain_fits(),
+                turned_back: [6, 7, 8].map(|number| {
+                    account
+                        .turned_back
+                        .iter()
+                        .filter(|back| **back == number)
+                        .count() as u32
+                }),
+                extended: account.extended,
+            }
+        }
+    }
+}
+
+/// Holds the probe and its report against the account.
+fn check(probe: &Probe, account: &Account, output: &[u8]) {
+    let report = probe.report();
+    let running = matches!(probe.status(), IdentifyStatus::Running { .. });
+    assert_eq!(
+        running, !account.ended,
+        "probe and account have both ended or neither"
+    );
+    assert_eq!(report.ticks, account.ticks, "ticks");
+    assert_eq!(report.stored, account.stored(), "stored");
+    assert_eq!(report.held, account.held(), "held");
+    let (warm, rows) = if account.ended {
+        account.warm_and_rows()
+    } else {
+        (0, 0)
+    };
+    assert_eq!(report.warm, warm, "warm");
+    assert_eq!(report.rows, rows, "rows");
+    if account.ended {
+        assert_eq!(
+            report.stored,
+            report.held + warm + rows,
+            "stored is held, warm and rows"
+        );
+    }
+    let samples = access::samples(probe.inner());
+    assert_eq!(
+        samples.duration_s.to_bits(),
+        account.duration_s.to_bits(),
+        "window duration"
+    );
+    for (place, entry) in account.entries.iter().enumerate() {
+        assert_eq!(
+            samples.rates[place].to_bits(),
+            entry.rate.to_bits(),
+            "rate {place}"
+        );
+        assert_eq!(
+            samples.moments[place].to_bits(),
+            entry.moment.to_bits(),
+            "moment {place}"
+        );
+        assert_eq!(samples.held[place], entry.held, "mark {place}");
+    }
+    for (word, back) in output[REPORT_LEN..]
+        .chunks_exact(4)
+        .zip(&account.turned_back)
+    {
+        let bits = u32::from_be_bytes(word.try_into().expect("four bytes"));
+        let number = bits.wrapping_sub(float::NAN_BITS);
+        let answered = if (6..=8).contains(&number) { number } else { 0 };
+        assert_eq!(answered, *back, "a call turned back");
+    }
+}
+
+fn ending(probe: &Probe, account: &Account) -> Ending {
+    let integrated = account.class == Some(Class::Integrated);
+    match probe.status() {
+        IdentifyStatus::Running { .. } => Ending::Running,
+        IdentifyStatus::Done(_) if !integrated => Ending::DoneRecorded,
+        IdentifyStatus::Done(_) => match probe.half_ticks() {
+            Some(half_ticks) if half_ticks % 2 == 1 => Ending::DoneIntegratedHalf,
+            _ => Ending::DoneIntegratedWhole,
+        },
+        IdentifyStatus::Aborted(access::IdentifyAbort::Saturated) => Ending::Saturated,
+        IdentifyStatus::Aborted(_) if integrated => Ending::UnexcitedIntegrated,
+        IdentifyStatus::Aborted(_) => Ending::UnexcitedNoSolve,
+    }
+}

@@ -1,0 +1,64 @@
+//! A second program written from document 01 alone, for holding against the reference. It
+//! shares no code with it: root and narrowing are the hardware's, the window is a list, and
+//! what a fit can know before its loops is made before them.
+
+mod fits;
+mod probe;
+
+use probe::{Extension, Probe};
+
+/// Document 01's byte run.
+pub fn byte_run(config: &[u8], calls: &[u8], output: &mut [u8]) -> u32 {
+    let count = calls.len() / 12;
+    if config.len() != 24 || calls.len() != 12 * count || output.len() < 36 + 4 * count {
+        return 9;
+    }
+    let word = |bytes: &[u8], n: usize| {
+        u32::from_be_bytes([
+            bytes[4 * n],
+            bytes[4 * n + 1],
+            bytes[4 * n + 2],
+            bytes[4 * n + 3],
+        ])
+    };
+    let number = |bytes: &[u8], n: usize| f32::from_bits(word(bytes, n));
+    let extension = if word(config, 3) == 0 {
+        None
+    } else {
+        Some(Extension {
+            amplitude: number(config, 4),
+            duration: number(config, 5),
+        })
+    };
+    let made = Probe::new(
+        number(config, 0),
+        number(config, 1),
+        number(config, 2),
+        extension,
+    );
+    let mut probe = match made {
+        Ok(probe) => probe,
+        Err(number) => return number,
+    };
+    for n in 0..count {
+        let call = &calls[12 * n..];
+        let answer = match probe.step(number(call, 0), number(call, 1), number(call, 2)) {
+            Ok(offset) => bits(offset),
+            Err(number) => 0x7fc0_0000 + number,
+        };
+        output[36 + 4 * n..40 + 4 * n].copy_from_slice(&answer.to_be_bytes());
+    }
+    output[..36].copy_from_slice(&probe.report());
+    0
+}
+
+/// The bits of a float, every NaN's the same; tested on bits that the compiler cannot see
+/// through, as it takes one NaN for another.
+fn bits(value: f32) -> u32 {
+    let bits = std::hint::black_box(value.to_bits());
+    if bits << 1 > 0xff00_0000 {
+        0x7fc0_0000
+    } else {
+        bits
+    }
+}

@@ -1,0 +1,360 @@
+//! Vector files of the fits: tie rule, sums, Cholesky, recorded fits, poles, lags, gain fits,
+//! integrated fits.
+
+use std::collections::BTreeMap;
+
+use lists::random::Random;
+use reference::access::{self, Class, DelaySums, RateModel, Samples, noted};
+use reference::byte_run::{calls_of, config_of, sizes_fit};
+use reference::probe::Probe;
+
+use crate::file::File;
+use crate::window;
+
+/// The windows that lists of a seed leave, up to `longest` samples, with their family.
+fn windows(seed: u64, longest: usize) -> impl Iterator<Item = (&'static str, Samples)> {
+    (0u64..).filter_map(move |number| {
+        let list = lists::list(seed, number);
+        if !sizes_fit(&list.config, &list.calls, &vec![0; list.output_len]) {
+            return None;
+        }
+        let mut probe = Probe::new(config_of(&list.config)).ok()?;
+        for call in calls_of(&list.calls) {
+            if access::stored(probe.inner()) > longest {
+                return None;
+            }
+            probe.step(call.dt, call.rate, call.moment).ok();
+        }
+        let samples = access::samples(probe.inner());
+        (samples.len() <= longest).then_some((list.family, samples))
+    })
+}
+
+/// The tie rule over 21 entries.
+pub fn ties(seed: u64) -> File {
+    let mut random = Random::numbered(seed, 30);
+    let mut file = File::default();
+    /// An entry's place, effect and residual.
+    type Entry = (usize, f32, f32);
+    let marked: [(f32, &[Entry]); 6] = [
+        (0.0, &[]),
+        (0.0, &[(0, 1.0, 1.25), (1, 1.0, 1.0)]),
+        (0.01, &[(0, 1.0, 1.007_812_5), (1, 1.0, 1.0)]),
+        (0.0, &[(0, -1.0, 0.5), (1, 1.0, 2.0)]),
+        (0.0, &[(0, 1.0, f32::INFINITY)]),
+        (0.0, &[(20, 1.0, 1.0)]),
+    ];
+    for (share, entries) in marked {
+        let mut fits = [None; 21];
+        for &(place, effect, residual) in entries {
+            fits[place] = Some((effect, residual));
+        }
+        tie(&mut file, share, &fits);
+    }
+    while file.records() < 1_050 {
+        let share = random.pick(&[0.0, 0.01, 0.01, 0.01, 0.5]);
+        let present = random.pick(&[1, 2, 3, 20, 21]);
+        let kind = random.below(5);
+        let least = random.scaled(1e-6, 1e3) as f32;
+        let mut one = |_| {
+            if random.below(21) >= present {
+                return None;
+            }
+            let residual = match kind {
+                // Whole numbers, which tie often.
+                0 => random.between(0, 3) as f32,
+                // Around the bar, to the last bit.
+                1 => f32::from_bits(
+                    ((least + 0.01 * least).to_bits() as i32 + random.between(0, 4) as i32 - 2)
+                        as u32,
+                ),
+                2 => least * random.range(1.0, 1.03) as f32,
+                3 => random.pick(&[0.0, 1.0, f32::INFINITY, f32::MAX, f32::NAN, 1e-45, -0.0]),
+                _ => random.scaled(1e-3, 1e3) as f32,
+            };
+            let effect = match random.below(6) {
+                0 => random.pick(&[0.0, -0.0, f32::NAN, f32::INFINITY, f32::NEG_INFINITY, 1e-45]),
+                1 | 2 => -random.unit() as f32,
+                _ => random.unit() as f32,
+            };
+            Some((
+                effect,
+                if kind == 1 && random.once_in(8) {
+                    least
+                } else {
+                    residual
+                },
+            ))
+        };
+        let fits: [Option<(f32, f32)>; 21] = std::array::from_fn(&mut one);
+        tie(&mut file, share, &fits);
+    }
+    file
+}
+
+fn tie(file: &mut File, share: f32, fits: &[Option<(f32, f32)>; 21]) {
+    let present = (0..21).filter(|&place| fits[place].is_some());
+    file.record()
+        .input(share)
+        .word(present.map(|place| 1 << place).sum());
+    for fit in fits {
+        let (effect, residual) = fit.unwrap_or((0.0, 0.0));
+        file.input(effect).input(residual);
+    }
+    file.word(access::delay_to_fit(fits, share).map_or(0, |position| position as u32));
+}
+
+/// The sums of all ten delays over small windows.
+pub fn sums(seed: u64) -> File {
+    let mut file = File::default();
+    for (family, samples) in windows(seed + 31, 40)
+        .filter(|(_, samples)| samples.len() > 8)
+        .take(85)
+    {
+        let (_, notes) = noted(|| access::fit_recorded(&samples));
+        window::samples(file.record_of(family), &samples)
+            .word(notes.rows.expect("a fit makes sums") as u32);
+        for sums in access::recorded_sums(&samples) {
+            delay_sums(&mut file, &sums, File::float);
+        }
+    }
+    file
+}
+
+fn delay_sums(file: &mut File, sums: &DelaySums, word: fn(&mut File, f32) -> &mut File) {
+    for value in sums.normal.iter().chain(&sums.projected) {
+        word(file, *value);
+    }
+    word(file, sums.target_squared);
+}
+
+/// Cholesky's solution and the residual: sums of windows, the same spoiled, and random ones.
+pub fn solve(seed: u64) -> File {
+    let mut random = Random::numbered(seed, 32);
+    let mut file = File::default();
+    for (family, samples) in windows(seed + 32, 200).filter(|(_, samples)| samples.len() > 11) {
+        let all = access::recorded_sums(&samples);
+        let mut sums = all[random.below(10)];
+        match random.below(4) {
+            0 => spoil(&mut random, &mut sums),
+            1 => sums = random_sums(&mut random),
+            _ => {}
+        }
+        delay_sums(file.record_of(family), &sums, File::input);
+        let solved = sums.solve();
+        let (solution, residual) = solved.unwrap_or(([0.0; 6], 0.0));
+        file.word(u32::from(solved.is_some()));
+        for value in solution {
+            file.float(value);
+        }
+        file.float(residual);
+        if file.records() == 950 {
+            break;
+        }
+    }
+    file
+}
+
+fn spoil(random: &mut Random, sums: &mut DelaySums) {
+    let wild = random.pick(&[
+        f32::NAN,
+        f32::INFINITY,
+        f32::NEG_INFINITY,
+        f32::MAX,
+        0.0,
+        -0.0,
+        1e-42,
+        -1.0,
+        1e30,
+    ]);
+    match random.below(5) {
+        // A diagonal, which decides on a fit.
+        0..=2 => sums.normal[7 * random.below(6)] = wild,
+        3 => sums.normal[random.below(36)] = wild,
+        _ => sums.projected[random.below(6)] = wild,
+    }
+}
+
+/// Sums that solve: a random lower half times its transpose, and a little on the diagonal.
+fn random_sums(random: &mut Random) -> DelaySums {
+    let scale = random.scaled(1e-12, 1e12);
+    let factor: [[f64; 6]; 6] =
+        std::array::from_fn(|_| std::array::from_fn(|_| random.range(-1.0, 1.0)));
+    let entry = |i: usize, j: usize| {
+        let sum: f64 = (0..6).map(|k| factor[i][k] * factor[j][k]).sum();
+        (scale * (sum + if i == j { 0.01 } else { 0.0 })) as f32
+    };
+    DelaySums {
+        normal: std::array::from_fn(|place| entry(place % 6, place / 6)),
+        projected: std::array::from_fn(|_| (scale * random.range(-1.0, 1.0)) as f32),
+        target_squared: (scale * random.range(0.0, 5.0)) as f32,
+    }
+}
+
+fn model(file: &mut File, model: Option<RateModel>) {
+    let (delay, floats) = match model {
+        None => (0, [0.0; 6]),
+        Some(model) => {
+            let ([r1, r2], [m0, m1, m2]) = (model.rate_weights, model.moment_weights);
+            (model.delay_ticks as u32, [r1, r2, m0, m1, m2, model.dt_s])
+        }
+    };
+    file.word(delay);
+    for value in floats {
+        file.float(value);
+    }
+}
+
+/// Whole recorded fits with the window's classification, as many of each answer.
+pub fn recorded(seed: u64) -> File {
+    let mut file = File::default();
+    let mut kept: BTreeMap<u32, usize> = BTreeMap::new();
+    for (family, samples) in windows(seed + 33, 120).filter(|(_, samples)| !samples.is_empty()) {
+        let class = match access::classify(&samples) {
+            Class::Integrated => 0,
+            Class::Recorded(_) => 1,
+            Class::Unexcited => 2,
+            Class::Saturated => 3,
+        };
+        let count = kept.entry(class).or_default();
+        if *count == 60 {
+            if kept.len() == 4 && kept.values().all(|count| *count == 60) {
+                break;
+            }
+            continue;
+        }
+        *count += 1;
+        let fit = access::fit_recorded(&samples);
+        window::samples(file.record_of(family), &samples).input(samples.duration_s);
+        file.word(u32::from(fit.is_some()));
+        model(&mut file, fit.map(|(model, _)| model));
+        file.float(fit.map_or(0.0, |(_, residual)| residual))
+            .word(class);
+    }
+    file
+}
+
+/// The 129 poles and the carry at many ticks.
+pub fn poles(seed: u64) -> File {
+    let mut random = Random::numbered(seed, 34);
+    let mut ticks = vec![
+        0.001,
+        0.002,
+        0.004,
+        0.01,
+        0.02,
+        0.1,
+        1.0,
+        50.0,
+        4096.0,
+        1e-30,
+        f32::from_bits(1),
+    ];
+    ticks.extend((0..80).map(|_| random.scaled(1e-5, 10.0) as f32));
+    let mut file = File::default();
+    for dt_s in ticks {
+        file.record().input(dt_s);
+        for pole in access::lag_poles(dt_s) {
+            file.float(pole);
+        }
+        file.wide(access::carry(dt_s).to_bits());
+    }
+    file
+}
+
+/// Sixteen moments through a lag.
+pub fn lagged(seed: u64) -> File {
+    let mut random = Random::numbered(seed, 35);
+    let mut file = File::default();
+    for _ in 0..700 {
+        let pole = match random.below(5) {
+            0 => random.pick(&[0.0, 1.0, 0.5, f32::from_bits(1), 1.0f32.next_down()]),
+            _ => random.unit() as f32,
+        };
+        let scale = random.pick(&[1.0, 1.0, 1.0, 1e-40, 1e-20, 1e30, 3.4e38]);
+        let moments: Vec<f32> = (0..16)
+            .map(|_| (scale * random.range(-1.0, 1.0)) as f32)
+            .collect();
+        file.record().input(pole);
+        for moment in &moments {
+            file.input(*moment);
+        }
+        for value in access::lag_through(&moments, pole) {
+            file.float(value);
+        }
+    }
+    file
+}
+
+/// Gain fits over small windows, a random pole and step each.
+pub fn gain(seed: u64) -> File {
+    let mut random = Random::numbered(seed, 36);
+    let mut file = File::default();
+    for (family, samples) in windows(seed + 36, 70).filter(|(_, samples)| samples.len() > 10) {
+        let dt_s = samples.duration_s / samples.len() as f32;
+        let poles = access::lag_poles(dt_s);
+        let pole = random.pick(&poles);
+        let step = random.below(20);
+        let carry = access::carry(dt_s);
+        let lagged = access::lag_through(&samples.moments, pole);
+        file.record_of(family)
+            .word(samples.len() as u32)
+            .word(step as u32)
+            .wide(carry.to_bits());
+        for (rate, moment) in samples.rates.iter().zip(&lagged) {
+            file.input(*rate).input(*moment);
+        }
+        let fit = access::fit_gain(&samples.rates, &lagged, step, carry);
+        let (gain, residual) = fit.unwrap_or((0.0, 0.0));
+        file.word(u32::from(fit.is_some()))
+            .float(gain)
+            .float(residual);
+        if file.records() == 520 {
+            break;
+        }
+    }
+    file
+}
+
+/// Whole integrated fits: none for too few samples, none with no position, whole and half
+/// steps, refinements that end early.
+pub fn integrated(seed: u64) -> File {
+    let mut file = File::default();
+    let mut kept: BTreeMap<&str, usize> = BTreeMap::new();
+    for (family, samples) in windows(seed + 37, 130).take(60_000) {
+        let few = samples.len() <= 12;
+        if few && kept.get("few") == Some(&10) || samples.is_empty() {
+            continue;
+        }
+        if !few && access::classify(&samples) != Class::Integrated {
+            continue;
+        }
+        let (fit, notes) = noted(|| access::fit_integrated(&samples));
+        let (kind, most) = match notes.step {
+            None if few => ("few", 10),
+            None => ("none", 20),
+            Some(_) if notes.gain_fits < 2_604 => ("early", 15),
+            Some(step) if step % 2 == 1 => ("half", 50),
+            Some(_) => ("whole", 50),
+        };
+        let count = kept.entry(kind).or_default();
+        if *count == most {
+            if kept.values().sum::<usize>() == 145 {
+                break;
+            }
+            continue;
+        }
+        *count += 1;
+        file.record_of(family)
+            .word(samples.len() as u32)
+            .input(samples.duration_s);
+        for (rate, moment) in samples.rates.iter().zip(&samples.moments) {
+            file.input(*rate).input(*moment);
+        }
+        file.word(u32::from(fit.is_some()))
+            .word(notes.step.map_or(0, |step| step as u32));
+        model(&mut file, fit);
+        file.word(notes.gain_fits);
+    }
+    file
+}

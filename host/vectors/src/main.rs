@@ -1,0 +1,82 @@
+//! Writes vector files: the reference's answers for the programs that replay them.
+
+mod file;
+mod fits;
+mod kinds;
+mod runs;
+mod scalars;
+mod sweep;
+#[cfg(test)]
+mod tests;
+mod window;
+
+use std::fs;
+use std::io;
+use std::path::{Path, PathBuf};
+use std::process::ExitCode;
+
+use kinds::{KINDS, RUNS_LAYOUT};
+
+const USAGE: &str = "usage: vectors all|NAME FOLDER [--seed S]";
+
+fn main() -> ExitCode {
+    let written = arguments().and_then(|(name, folder, seed)| {
+        write(&name, &folder, seed).map_err(|error| error.to_string())
+    });
+    match written {
+        Ok(()) => ExitCode::SUCCESS,
+        Err(message) => {
+            eprintln!("{message}");
+            ExitCode::from(2)
+        }
+    }
+}
+
+fn arguments() -> Result<(String, PathBuf, u64), String> {
+    let words: Vec<String> = std::env::args().skip(1).collect();
+    let (name, folder, seed) = match &words[..] {
+        [name, folder] => (name, folder, 1),
+        [name, folder, flag, seed] if flag == "--seed" => {
+            let seed = seed
+                .parse()
+                .map_err(|_| format!("{seed} is no whole number"))?;
+            (name, folder, seed)
+        }
+        _ => return Err(USAGE.to_string()),
+    };
+    let mut names: Vec<&str> = KINDS.iter().map(|kind| kind.name).collect();
+    names.extend(["runs", "all"]);
+    if !names.contains(&name.as_str()) {
+        return Err(format!("{USAGE}\nNAME is one of: {}", names.join(", ")));
+    }
+    Ok((name.clone(), PathBuf::from(folder), seed))
+}
+
+fn write(name: &str, folder: &Path, seed: u64) -> io::Result<()> {
+    for kind in &KINDS {
+        if name == kind.name || name == "all" {
+            let how = format!(
+                "Record: {}.\nInputs: {}.\n{}",
+                kind.layout,
+                kind.inputs,
+                made_by(kind.name, seed)
+            );
+            (kind.make)(seed).write(folder, kind.name, &how)?;
+        }
+    }
+    if name == "runs" || name == "all" {
+        let (file, index) = runs::runs(seed);
+        let how = format!("Record: {RUNS_LAYOUT}.\n{}", made_by("runs", seed));
+        file.write(folder, "runs", &how)?;
+        fs::write(folder.join("runs-index.txt"), index)?;
+    }
+    Ok(())
+}
+
+/// How a file was made.
+fn made_by(name: &str, seed: u64) -> String {
+    format!(
+        "Seed {seed}: `cargo run --release -p vectors -- {name} FOLDER --seed {seed}` in host/.\n\
+         The answers are those of stable-flight 110781c7ef with document 01's stand-ins. A NaN answer is 7FC00000.\n"
+    )
+}
