@@ -3,22 +3,15 @@ use Prim.Native.Nat.{ℕ, zero, suc, _+_, _*_, _/_, _%_}
 use mathlib.Core.Bool.{Bool, true, false, _&&_}
 use mathlib.Core.List.{List, [], _∷_, _++_, map}
 use lib.Dec.{leb, eqb}
-use lib.ListN.{length, getD, drop}
-use lib.Ieee.{Float, binary32, ofBits}
+use lib.ListN.{length, drop}
 use Rattle.account.specs.declared.IdentifyConfig.{IdentifyConfig}
 use Rattle.account.specs.declared.Noisy.{Noisy}
 use Rattle.account.specs.declared.Noisy.the-variants.{Absent, Present}
 use Rattle.account.specs.Rules.{broken}
 use Rattle.account.specs.Probe.{Call, Reply, offset, refused, fresh, replies}
 use Rattle.account.specs.Account.{opened, account}
-use Rattle.report.specs.Report.{reportBytes, wordBytes, wordOf, ofAccount}
-
--- the word at byte i, and the float that it stands for; every NaN pattern is NaN
-unfoldable pub wordAt : List ℕ → ℕ → ℕ
-wordAt bytes i = ((getD bytes i 0 * 256 + getD bytes (i + 1) 0) * 256 + getD bytes (i + 2) 0) * 256 + getD bytes (i + 3) 0
-
-unfoldable pub floatAt : List ℕ → ℕ → Float
-floatAt bytes i = ofBits binary32 (wordAt bytes i)
+use Rattle.wire.specs.Words.{wordAt, floatAt, wordBytes, wordOf}
+use Rattle.report.specs.Report.{reportBytes, ofAccount}
 
 -- "flag (nonzero: extension), its amplitude, its duration"
 unfoldable pub extensionOf : ℕ → List ℕ → Noisy

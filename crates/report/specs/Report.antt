@@ -1,28 +1,21 @@
 -- The report, 36 bytes: 01, "The report".
-use Prim.Native.Nat.{ℕ, zero, suc, _+_, _*_, _/_, _%_, _^_}
+use Prim.Native.Nat.{ℕ, _+_, _*_, _%_, _^_}
 use mathlib.Core.Bool.{Bool, true, false, cond}
 use mathlib.Core.Option.{Option, none, some}
-use mathlib.Core.List.{List, [], _∷_, _++_, map, foldl}
+use mathlib.Core.List.{List, [], _∷_, _++_, map}
 use lib.ListN.{length}
-use lib.Ieee.{Float, binary32, toBits}
+use lib.Ieee.{Float}
 use Rattle.float.specs.Values.{zero32}
+use Rattle.wire.specs.Words.{bytesOf, wordBytes, wordOf}
 use Rattle.window.specs.Walk.{many, isHeld, isWarm, isRow}
 use Rattle.window.specs.Runs.{heldOf, warmOf, rowsOf}
 use Rattle.delay.specs.declared.RateModel.{RateModel}
 use Rattle.delay.specs.HalfTicks.{wholeTicks}
 use Rattle.account.specs.declared.IdentifyStatus.{IdentifyStatus}
 use Rattle.account.specs.declared.IdentifyStatus.the-variants.{Running, Done, Unexcited, Saturated}
-use Rattle.account.specs.Probe.{Probe, Standing, clock, stands}
+use Rattle.account.specs.Probe.{Probe, clock, stands}
+use Rattle.report.specs.declared.Report.{Report}
 use Rattle.account.specs.Account.{Account, ratesOf, momentsOf, marksOf, runsOf}
-
--- what a report says
-pub record Report : Type 0 where
-  pub ticks : ℕ
-  pub stored : ℕ
-  pub held : ℕ
-  pub warm : ℕ
-  pub rows : ℕ
-  pub standing : Standing
 
 -- 0 for what still runs: "Warm, rows and fits are 0 until the end"
 abbrev pub onceEnded : Option Float → ℕ → ℕ
@@ -40,19 +33,23 @@ ofProbe p =
       held = many isHeld marks;
       warm = onceEnded running (many isWarm marks);
       rows = onceEnded running (many isRow marks);
-      standing = p .standing;
+      status = p .standing .status;
+      «gain_fits» = p .standing .fits;
     }
 
 -- the report that an account asks for: "Held counts the marked samples; warm sums min(run, 11) over the good runs"
 unfoldable pub ofAccount : Account → Report
-ofAccount a = record {
-  ticks = a .ticks;
-  stored = length (a .entries);
-  held = heldOf (marksOf a);
-  warm = cond (a .running) 0 (warmOf (runsOf a));
-  rows = cond (a .running) 0 (length (rowsOf (runsOf a)));
-  standing = stands (a .running) (a .elapsed) (ratesOf a) (momentsOf a) (marksOf a) (a .duration);
-}
+ofAccount a =
+    let standing = stands (a .running) (a .elapsed) (ratesOf a) (momentsOf a) (marksOf a) (a .duration) in
+    record {
+      ticks = a .ticks;
+      stored = length (a .entries);
+      held = heldOf (marksOf a);
+      warm = cond (a .running) 0 (warmOf (runsOf a));
+      rows = cond (a .running) 0 (length (rowsOf (runsOf a)));
+      status = standing .status;
+      «gain_fits» = standing .fits;
+    }
 
 -- "kind 2 (0 running, 1 done, 2 Unexcited, 3 Saturated)"
 unfoldable pub kindOf : IdentifyStatus → ℕ
@@ -86,32 +83,18 @@ bits w v = record { width = w; value = v }
 -- "Bits, most significant first: kind 2, d 4, zero 2, ticks 25, stored 12, held 12, warm 12, rows 12, gain fits 12, zero 3"
 unfoldable pub fieldsOf : Report → List Field
 fieldsOf r =
-    bits 2 (kindOf (r .standing .status)) ∷
-    bits 4 (delayOf (r .standing .status)) ∷
+    bits 2 (kindOf (r .status)) ∷
+    bits 4 (delayOf (r .status)) ∷
     bits 2 0 ∷
     bits 25 (r .ticks) ∷
     bits 12 (r .stored) ∷
-    bits 12 (r .held) ∷ bits 12 (r .warm) ∷ bits 12 (r .rows) ∷ bits 12 (r .standing .fits) ∷ bits 3 0 ∷ []
+    bits 12 (r .held) ∷ bits 12 (r .warm) ∷ bits 12 (r .rows) ∷ bits 12 (r .«gain_fits») ∷ bits 3 0 ∷ []
 
 -- fields side by side as one number, each cut to its width
 unfoldable pub packed : ℕ → List Field → ℕ
 packed n [] = n
 packed n (f ∷ fs) = packed (n * 2 ^ f .width + f .value % 2 ^ f .width) fs
 
--- the low k bytes of a number, the most significant first
-unfoldable pub bytesOf : ℕ → ℕ → List ℕ
-bytesOf zero n = []
-bytesOf (suc k) n = n / 256 ^ k % 256 ∷ bytesOf k n
-
--- 32-bit words, big-endian
-unfoldable pub wordBytes : List ℕ → List ℕ
-wordBytes [] = []
-wordBytes (w ∷ ws) = bytesOf 4 w ++ wordBytes ws
-
--- a float's word: "NaN 7FC00000 hexadecimal"
-abbrev pub wordOf : Float → ℕ
-wordOf x = toBits binary32 x
-
 -- 12 bytes of fields, "then six 32-bit floats"
 unfoldable pub reportBytes : Report → List ℕ
-reportBytes r = bytesOf 12 (packed 0 (fieldsOf r)) ++ wordBytes (map wordOf (floatsOf (r .standing .status)))
+reportBytes r = bytesOf 12 (packed 0 (fieldsOf r)) ++ wordBytes (map wordOf (floatsOf (r .status)))

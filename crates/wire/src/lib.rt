@@ -1,0 +1,1 @@
+// 32-bit words and floats in byte slices, big-endian.
