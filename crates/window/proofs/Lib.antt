@@ -1,2 +1,4 @@
 pub mod Marked
 pub mod Rows
+pub mod Arrays
+pub mod Tallies

@@ -1,3 +1,4 @@
 pub mod Samples
 pub mod Walk
 pub mod Runs
+pub mod Arrays

@@ -1,4 +1,11 @@
 // The window of recorded ticks. Its samples stand in arrays that the caller lends; the rest is here, by value.
+ghost use mathlib.Core.Path.{_≡_};
+ghost use Prim.Native.Nat.{_≤_, _<_};
+ghost use Rattle.float.specs.Values.{zero32};
+ghost use Rattle.window.specs.Samples.{bad};
+ghost use Rattle.window.specs.Arrays.{storedOf, holdAt, putAt, nextWindow, countsTo, tallied};
+
+const CAPACITY: usize = 2048;
 
 // How many samples are stored, and the sum of their dt.
 pub struct Window {
@@ -6,9 +13,139 @@ pub struct Window {
     pub duration_s: f32,
 }
 
+impl Window {
+    pub fn new() -> Self
+        ensures { λ r. ⌜ r ≡ record { len = 0; «duration_s» = zero32 } ⌝ }
+    {
+        Window {
+            len: 0,
+            duration_s: 0.0,
+        }
+    }
+
+    // The stored samples: never more than the arrays hold, whatever the struct says.
+    pub fn stored(self) -> usize
+        ensures { λ r. ⌜ r ≡ storedOf self ⌝ }
+    {
+        let len = self.len;
+        if len < CAPACITY { len } else { CAPACITY }
+    }
+}
+
+// What is stored of a reading at a place: the one before it of its own kind where the reading is not finite, 0 at the first place.
+fn held_value(value: f32, values: &[f32; 2048], index: usize) -> f32
+    requires { ⌜ index < 2048 ⌝ }
+    ensures { λ r. ⌜ r ≡ holdAt (now (values .entry)) index value ⌝ }
+{
+    if float::is_finite(value) {
+        return value;
+    }
+    if index == 0 {
+        return 0.0;
+    }
+    values[index - 1]
+}
+
+fn is_bad(rate: f32, moment: f32) -> bool
+    ensures { λ r. ⌜ r ≡ bad rate moment ⌝ }
+{
+    !(float::is_finite(rate) & float::is_finite(moment))
+}
+
+// Stores one tick, if there is room.
+pub fn record_tick(
+    window: Window,
+    rates: &mut [f32; 2048],
+    moments: &mut [f32; 2048],
+    offsets: &mut [f32; 2048],
+    held: &mut [bool; 2048],
+    dt: f32,
+    rate: f32,
+    moment: f32,
+    offset: f32,
+) -> Window
+    ensures result { λ r. ⌜ r ≡ nextWindow window dt ⌝ }
+    ensures rates { λ r. ⌜ now (rates .exit) ≡ putAt (storedOf window) (now (rates .entry)) (holdAt (now (rates .entry)) (storedOf window) rate) ⌝ }
+    ensures moments { λ r. ⌜ now (moments .exit) ≡ putAt (storedOf window) (now (moments .entry)) (holdAt (now (moments .entry)) (storedOf window) moment) ⌝ }
+    ensures offsets { λ r. ⌜ now (offsets .exit) ≡ putAt (storedOf window) (now (offsets .entry)) offset ⌝ }
+    ensures held { λ r. ⌜ now (held .exit) ≡ putAt (storedOf window) (now (held .entry)) (bad rate moment) ⌝ }
+{
+    let index = window.stored();
+    if index < CAPACITY {
+        rates[index] = held_value(rate, rates, index);
+        moments[index] = held_value(moment, moments, index);
+        offsets[index] = offset;
+        held[index] = is_bad(rate, moment);
+        Window {
+            len: index + 1,
+            duration_s: window.duration_s + dt,
+        }
+    } else {
+        window
+    }
+}
+
 // What the stored ticks are: held, too early in their run to make a row, or a row.
 pub struct Counts {
     pub held: usize,
     pub warm: usize,
     pub rows: usize,
+}
+
+// Counts so far, with the good ticks in a row just before the next one.
+pub struct Tally {
+    pub held: usize,
+    pub warm: usize,
+    pub rows: usize,
+    pub run: usize,
+}
+
+// One more tick. A held one empties the history; a good one is a row from the 12th of its run on.
+fn tally_tick(t: Tally, held: bool) -> Tally
+    requires { ⌜ (t .held < 2048) × (t .warm < 2048) × (t .rows < 2048) × (t .run < 2048) ⌝ }
+    ensures { λ r. ⌜ r ≡ tallied t held ⌝ }
+{
+    if held {
+        return Tally {
+            held: t.held + 1,
+            warm: t.warm,
+            rows: t.rows,
+            run: 0,
+        };
+    }
+    if t.run < 11 {
+        return Tally {
+            held: t.held,
+            warm: t.warm + 1,
+            rows: t.rows,
+            run: t.run + 1,
+        };
+    }
+    Tally {
+        held: t.held,
+        warm: t.warm,
+        rows: t.rows + 1,
+        run: t.run + 1,
+    }
+}
+
+// What the stored ticks of a window are.
+pub fn count_ticks(window: Window, held: &[bool; 2048]) -> Counts
+    ensures { λ r. ⌜ r ≡ countsTo (now (held .entry)) (storedOf window) ⌝ }
+{
+    let n = window.stored();
+    let mut t = Tally {
+        held: 0,
+        warm: 0,
+        rows: 0,
+        run: 0,
+    };
+    for k in 0..n {
+        t = tally_tick(t, held[k]);
+    }
+    Counts {
+        held: t.held,
+        warm: t.warm,
+        rows: t.rows,
+    }
 }
