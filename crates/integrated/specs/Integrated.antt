@@ -19,7 +19,6 @@ use Rattle.integrated.specs.declared.LagFit.{LagFit}
 use Rattle.integrated.specs.declared.Kept.{Kept}
 use Rattle.integrated.specs.declared.Kept.the-variants.{Empty, Best}
 use Rattle.integrated.specs.declared.Refined.{Refined}
-use Rattle.integrated.specs.declared.Fitted.{Fitted}
 use Rattle.integrated.specs.declared.Fitted.the-variants.{Nothing, Model}
 use Rattle.integrated.specs.declared.IntegratedFit.{IntegratedFit}
 use Rattle.lags.specs.Lags.{lagCount, poleOf, carryOf}

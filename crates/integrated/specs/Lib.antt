@@ -1,3 +1,4 @@
 pub mod Grid
 pub mod Golden
 pub mod Integrated
+pub mod Steps

@@ -1,5 +1,23 @@
 // The integrated fit: for a noisy window, a gain at each lag and each delay in half ticks, and a search between the lags.
+ghost use mathlib.Core.Path.{_≡_};
+ghost use Prim.Native.Nat.{_-_, _≤_, _<_, min};
+ghost use lib.ListN.{length, take, getD, replicate};
+ghost use Rattle.float.specs.Series.{at, fill};
+ghost use Rattle.delay.specs.declared.Entry.the-variants as entry;
+ghost use Rattle.delay.specs.Tie.{entryCount};
+ghost use Rattle.lags.specs.Lags.{lagCount, poleOf};
+ghost use Rattle.gain.specs.Gain.{firstTick, stepCount, isHalf};
+ghost use Rattle.gain.specs.Prepared.{fitAt, Totals};
+ghost use Rattle.integrated.specs.Grid.{candidate, keepOf, highEnd};
+ghost use Rattle.integrated.specs.Golden.{betterOf, maxRounds, refined};
+ghost use Rattle.integrated.specs.Integrated.{keptAt, entryOf, newerShare, olderShare, modelOf, modelled as modelledOf, noModel, chosenFrom, searched, windowFit, fitIntegrated};
+ghost use Rattle.integrated.specs.Steps.{against, tableOf};
+use delay::Delay;
+use delay::Entry;
+use delay::Position;
 use delay::RateModel;
+use gain::GainFit;
+use gain::Shared;
 
 // A candidate: its pole, the ends of the bracket around it, its gain and its residual.
 pub struct LagFit {
@@ -31,4 +49,309 @@ pub enum Fitted {
 pub struct IntegratedFit {
     pub fitted: Fitted,
     pub gain_fits: u32,
+}
+
+// ---- the grid
+
+// The first fit is kept until a strictly smaller residual replaces it.
+fn keep(kept: Kept, pole: f32, low: f32, high: f32, fit: GainFit) -> Kept
+    ensures { λ r. ⌜ r ≡ keepOf kept (candidate pole low high fit) ⌝ }
+{
+    let GainFit::Fit(gain, residual) = fit else {
+        return kept;
+    };
+    let next = LagFit {
+        pole,
+        low,
+        high,
+        gain,
+        residual,
+    };
+    let Kept::Best(best) = kept else {
+        return Kept::Best(next);
+    };
+    if residual < best.residual {
+        Kept::Best(next)
+    } else {
+        kept
+    }
+}
+
+// What each step keeps, against its fit at one more pole.
+fn keep_each(kept: [Kept; 20], pole: f32, low: f32, high: f32, fits: [GainFit; 20]) -> [Kept; 20]
+    ensures { λ r. ⌜ r ≡ fill (against pole low high fits) kept stepCount ⌝ }
+{
+    let mut next = kept;
+    for s in 0..20usize {
+        let k = next[s];
+        let fit = fits[s];
+        next[s] = keep(k, pole, low, high, fit);
+    }
+    next
+}
+
+// The pole above pole i, or pole i itself where it is the last. Asked of one of the 129 poles only.
+fn next_pole(dt_s: f32, i: usize, pole: f32) -> f32
+    requires { ⌜ (i ≤ lagCount) × (pole ≡ poleOf «dt_s» i) ⌝ }
+    ensures { λ r. ⌜ r ≡ highEnd (poleOf «dt_s») lagCount i ⌝ }
+{
+    if i < 128 {
+        return lags::pole(dt_s, i + 1);
+    }
+    pole
+}
+
+// What each step keeps of all poles, from a window's moments, its leaky series and their sums.
+fn grid(
+    moments: &[f32; 2048],
+    cs: &[f64; 2048],
+    ts: &[f64; 2048],
+    w: Shared,
+    dt_s: f32,
+) -> [Kept; 20]
+    requires { ⌜ (w .ticks ≤ 2037) × Totals (at (now cs)) (at (now ts)) w ⌝ }
+    ensures { λ r. ⌜ r ≡ tableOf (keptAt «dt_s» (fitAt (w .carry) (at (now (moments .entry))) (at (now (cs .entry))) (at (now (ts .entry))) (w .ticks))) ⌝ }
+{
+    let len = w.ticks + 11;
+    let mut kept = [Kept::Empty; 20];
+    let mut xs = [0.0f64; 4096];
+    let mut low = 0.0f32;
+    let mut pole = 0.0f32;
+    for i in 0..129usize {
+        let high = next_pole(dt_s, i, pole);
+        gain::lag_through(moments, pole, len, &mut xs);
+        let fits = kernel::fit_steps(&xs, cs, ts, w);
+        let next = keep_each(kept, pole, low, high, fits);
+        kept = next;
+        low = pole;
+        pole = high;
+    }
+    kept
+}
+
+// ---- the refinement
+
+fn better(best: LagFit, kept: LagFit) -> LagFit
+    ensures { λ r. ⌜ r ≡ betterOf best kept ⌝ }
+{
+    if kept.residual < best.residual {
+        kept
+    } else {
+        best
+    }
+}
+
+// A golden-section search between the ends of a candidate, at one step.
+fn refine(
+    moments: &[f32; 2048],
+    cs: &[f64; 2048],
+    ts: &[f64; 2048],
+    w: Shared,
+    step: usize,
+    grid_fit: LagFit,
+) -> Refined
+    requires { ⌜ (w .ticks ≤ 2037) × Totals (at (now cs)) (at (now ts)) w ⌝ }
+    ensures { λ r. ⌜ (r ≡ refined (fitAt (w .carry) (at (now (moments .entry))) (at (now (cs .entry))) (at (now (ts .entry))) (w .ticks) step) «grid_fit») × (r .rounds ≤ maxRounds) ⌝ }
+{
+    let mut low = grid_fit.low;
+    let mut high = grid_fit.high;
+    let mut best = grid_fit;
+    let mut rounds: u32 = 0;
+    while rounds < 12 {
+        let left = high - 0.618034 * (high - low);
+        let right = low + 0.618034 * (high - low);
+        let left_fit = gain::fit_at(moments, cs, ts, w, step, left);
+        let right_fit = gain::fit_at(moments, cs, ts, w, step, right);
+        rounds += 1;
+        let GainFit::Fit(left_gain, left_residual) = left_fit else {
+            break;
+        };
+        let GainFit::Fit(right_gain, right_residual) = right_fit else {
+            break;
+        };
+        if left_residual < right_residual {
+            best = better(
+                best,
+                LagFit {
+                    pole: left,
+                    low: low,
+                    high: high,
+                    gain: left_gain,
+                    residual: left_residual,
+                },
+            );
+            high = right;
+        } else {
+            best = better(
+                best,
+                LagFit {
+                    pole: right,
+                    low: low,
+                    high: high,
+                    gain: right_gain,
+                    residual: right_residual,
+                },
+            );
+            low = left;
+        }
+    }
+    Refined { best, rounds }
+}
+
+// ---- the model
+
+// The share of the gain on the newer moment: all of it, or half at a half step.
+fn newer_share(step: usize) -> f32
+    ensures { λ r. ⌜ r ≡ newerShare (isHalf step) ⌝ }
+{
+    if step % 2 == 0 { 1.0 } else { 0.5 }
+}
+
+// The share on the older one: none, or half at a half step.
+fn older_share(step: usize) -> f32
+    ensures { λ r. ⌜ r ≡ olderShare (isHalf step) ⌝ }
+{
+    if step % 2 == 0 { 0.0 } else { 0.5 }
+}
+
+// A candidate as a model. A position is 1 to 20, as the tie rule gives it.
+fn model(b: LagFit, position: usize, dt_s: f32) -> RateModel
+    requires { ⌜ (1 ≤ position) × (position ≤ entryCount) ⌝ }
+    ensures { λ r. ⌜ r ≡ modelOf b position «dt_s» ⌝ }
+{
+    let step = position - 1;
+    let rest = 1.0 - b.pole;
+    RateModel {
+        r1: 1.0 + b.pole,
+        r2: -b.pole,
+        m0: newer_share(step) * b.gain * rest,
+        m1: older_share(step) * b.gain * rest,
+        m2: 0.0,
+        delay: Delay::from_integrated(position),
+        dt_s: dt_s,
+    }
+}
+
+// The model of a refined candidate. The gain fits: 20 at each of 129 poles, and two a round.
+fn modelled(r: Refined, position: usize, dt_s: f32) -> IntegratedFit
+    requires { ⌜ (1 ≤ position) × (position ≤ entryCount) × (r .rounds ≤ maxRounds) ⌝ }
+    ensures { λ f. ⌜ f ≡ modelledOf r position «dt_s» ⌝ }
+{
+    IntegratedFit {
+        fitted: Fitted::Model(model(r.best, position, dt_s)),
+        gain_fits: 2580 + 2 * r.rounds,
+    }
+}
+
+fn no_model(gain_fits: u32) -> IntegratedFit
+    ensures { λ r. ⌜ r ≡ noModel «gain_fits» ⌝ }
+{
+    IntegratedFit {
+        fitted: Fitted::Nothing,
+        gain_fits: gain_fits,
+    }
+}
+
+// ---- the fit
+
+// A kept candidate as an entry of the tie rule, with its gain as effect.
+fn entry(kept: Kept) -> Entry
+    ensures { λ r. ⌜ r ≡ entryOf kept ⌝ }
+{
+    match kept {
+        Kept::Empty => Entry::Missing,
+        Kept::Best(b) => Entry::Fit(b.gain, b.residual),
+    }
+}
+
+fn entries(kept: [Kept; 20]) -> [Entry; 20]
+    ensures { λ r. ⌜ r ≡ fill (λ s l. entryOf (getD kept s Kept.Empty)) (replicate entryCount entry.Missing) stepCount ⌝ }
+{
+    let mut list = [Entry::Missing; 20];
+    for s in 0..20usize {
+        let k = kept[s];
+        list[s] = entry(k);
+    }
+    list
+}
+
+// The kept candidate of a position, refined. A position is 1 to 20, as the tie rule gives it.
+fn choose(
+    moments: &[f32; 2048],
+    cs: &[f64; 2048],
+    ts: &[f64; 2048],
+    w: Shared,
+    dt_s: f32,
+    kept: [Kept; 20],
+    position: usize,
+) -> IntegratedFit
+    requires { ⌜ (w .ticks ≤ 2037) × (1 ≤ position) × (position ≤ entryCount) × Totals (at (now cs)) (at (now ts)) w ⌝ }
+    ensures { λ r. ⌜ r ≡ chosenFrom (getD kept (position - 1) Kept.Empty) (fitAt (w .carry) (at (now (moments .entry))) (at (now (cs .entry))) (at (now (ts .entry))) (w .ticks) (position - 1)) position «dt_s» ⌝ }
+{
+    let step = position - 1;
+    let k = kept[step];
+    let Kept::Best(b) = k else {
+        return no_model(2580);
+    };
+    modelled(refine(moments, cs, ts, w, step, b), position, dt_s)
+}
+
+// The grid, the tie rule and the refinement, from a window's moments, its leaky series and their sums.
+fn search(
+    moments: &[f32; 2048],
+    cs: &[f64; 2048],
+    ts: &[f64; 2048],
+    w: Shared,
+    dt_s: f32,
+) -> IntegratedFit
+    requires { ⌜ (w .ticks ≤ 2037) × Totals (at (now cs)) (at (now ts)) w ⌝ }
+    ensures { λ r. ⌜ r ≡ searched «dt_s» (fitAt (w .carry) (at (now (moments .entry))) (at (now (cs .entry))) (at (now (ts .entry))) (w .ticks)) ⌝ }
+{
+    let kept = grid(moments, cs, ts, w, dt_s);
+    let position = delay::delay_to_fit(entries(kept), 0.0);
+    match position {
+        Position::Nowhere => no_model(2580),
+        Position::At(p) => choose(moments, cs, ts, w, dt_s, kept, p),
+    }
+}
+
+// The fit of a window of n ticks. Asked of more than 12 only.
+fn fit_long(rates: &[f32; 2048], moments: &[f32; 2048], n: usize, dt_s: f32) -> IntegratedFit
+    requires { ⌜ (firstTick ≤ n) × (n ≤ 2048) ⌝ }
+    ensures { λ r. ⌜ r ≡ searched «dt_s» (windowFit (now (rates .entry)) (now (moments .entry)) «dt_s» n) ⌝ }
+{
+    let carry = std::num::f32_to_f64_with_nan(lags::carry(dt_s));
+    let mut cs = [0.0f64; 2048];
+    let mut ts = [0.0f64; 2048];
+    let w = gain::prepare(rates, carry, n - 11, &mut cs, &mut ts);
+    search(moments, &cs, &ts, w, dt_s)
+}
+
+// The stored count, at most the 2,048 that a window holds.
+fn stored(len: usize) -> usize
+    ensures { λ r. ⌜ r ≡ min len 2048 ⌝ }
+{
+    if len < 2048 { len } else { 2048 }
+}
+
+// An array is as long as its type says. The proofs learn it where the array is passed by value.
+fn is_whole(samples: [f32; 2048])
+    ensures { λ r. ⌜ length samples ≡ 2048 ⌝ }
+{}
+
+// The integrated fit of the first len rates and moments.
+pub fn fit_integrated(
+    rates: &[f32; 2048],
+    moments: &[f32; 2048],
+    len: usize,
+    duration_s: f32,
+) -> IntegratedFit
+    ensures { λ r. ⌜ r ≡ fitIntegrated (take (min len 2048) (now (rates .entry))) (take (min len 2048) (now (moments .entry))) «duration_s» ⌝ }
+{
+    is_whole(*rates);
+    let n = stored(len);
+    if n <= 12 {
+        return no_model(0);
+    }
+    fit_long(rates, moments, n, duration_s / (n as f32))
 }

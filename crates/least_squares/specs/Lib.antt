@@ -1,2 +1,3 @@
 pub mod Cholesky
 pub mod Solve
+pub mod ColumnOrder

@@ -1,9 +1,9 @@
 -- The recorded fit of a window, and which fit the window takes: 01, "The recorded fit".
-use Prim.Native.Nat.{ℕ, zero, suc, _+_, _-_, max}
+use Prim.Native.Nat.{ℕ, _+_, _-_, max}
 use mathlib.Core.Bool.{Bool, true, false, cond}
 use mathlib.Core.List.{List, [], _∷_}
 use lib.ListN.{length, replicate}
-use lib.Ieee.{Float, binary32, ofBits, add, sub, mul, div, neg, lt, le}
+use lib.Ieee.{Float, binary32, ofBits, add, mul, div, neg, lt, le}
 use Rattle.float.specs.Values.{zero32, one32, whole32, magnitude}
 use Rattle.float.specs.Root.{rooted}
 use Rattle.float.specs.Series.{fill}

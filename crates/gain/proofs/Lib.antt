@@ -1,0 +1,4 @@
+pub mod Fill
+pub mod Below
+pub mod Accumulators
+pub mod Window

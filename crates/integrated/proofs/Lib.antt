@@ -1,0 +1,6 @@
+pub mod Order
+pub mod Keeps
+pub mod Rounds
+pub mod Tables
+pub mod Choice
+pub mod Prefix

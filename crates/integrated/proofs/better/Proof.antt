@@ -1,0 +1,15 @@
+-- `integrated::better` meets its contract, a case for each arm of its test.
+use Rattle.integrated.specs.Golden.{betterOf}
+use Rattle.integrated.proofs.better.Statement.{statement}
+use Rattle.integrated.proofs.better.Tie as tie
+
+returns : tie.Need-returns
+unfolding betterOf
+returns c = rw (c .if1 .taken)
+
+returns-2 : tie.Need-returns-2
+unfolding betterOf
+returns-2 c = rw (c .if1 .left)
+
+pub better-spec : {M : Type 1} → statement M
+better-spec = tie.close (tie.spec returns returns-2)

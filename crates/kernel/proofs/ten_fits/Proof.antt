@@ -1,0 +1,115 @@
+-- `kernel::ten_fits` meets its contract. The loop's invariant: the fits of the first j of the ten steps stand in their places. The measure is the steps left.
+use Prim.Native.Nat.{_≤_, _<_, _-_, _+_, _*_, _/_, _%_}
+use mathlib.Core.Path.{_≡_, refl, _∙_}
+use mathlib.Core.List.{List}
+use native.Mathlib.Nat.{add-zero}
+use native.Mathlib.Omega.{arith}
+use Rattle.float.specs.Series.{fill}
+use Rattle.gain.specs.declared.GainFit.{GainFit}
+use Rattle.gain.proofs.Fill.{fill-more}
+use Rattle.kernel.specs.Kernel.{laneCount, lane, stepFit}
+use Rattle.kernel.proofs.Steps.{lane-fit}
+use Rattle.kernel.proofs.ten_fits.Statement.{statement}
+use Rattle.kernel.proofs.ten_fits.Tie as tie
+
+abbrev Inv-loop : tie.InvT-loop
+Inv-loop xs cs ts w step ticks sums next₀ j₀ next j = (j ≤ laneCount) × (ticks ≡ w .ticks) × ((l : List GainFit) → next₀ ≡ fill (stepFit xs cs ts w) l step → next ≡ fill (stepFit xs cs ts w) l (step + j))
+
+abbrev μ-loop : tie.MeasureT-loop
+μ-loop xs cs ts w step ticks sums next₀ j₀ next j = laneCount - j
+
+sub-ten-sums : tie.Need-sub-ten-sums Inv-loop μ-loop
+sub-ten-sums c = omega arith
+
+ten-sums-requires : tie.Need-ten-sums-requires Inv-loop μ-loop
+ten-sums-requires c κs = omega arith
+
+loop-holds : tie.Need-loop-holds Inv-loop μ-loop
+loop-holds c = (omega arith, refl, λ l e. rw add-zero e)
+
+sub-h : tie.Need-sub-h Inv-loop μ-loop
+sub-h c = omega arith
+
+mul-h : tie.Need-mul-h Inv-loop μ-loop
+mul-h c = omega arith
+
+add-h : tie.Need-add-h Inv-loop μ-loop
+add-h c = omega arith
+
+mul-solve : tie.Need-mul-solve Inv-loop μ-loop
+mul-solve c = omega arith
+
+element-copy-out-solve : tie.Need-element-copy-out-solve Inv-loop μ-loop
+element-copy-out-solve c = omega arith
+
+mul-solve-2 : tie.Need-mul-solve-2 Inv-loop μ-loop
+mul-solve-2 c = omega arith
+
+element-copy-out-solve-2 : tie.Need-element-copy-out-solve-2 Inv-loop μ-loop
+element-copy-out-solve-2 c = omega arith
+
+mul-solve-3 : tie.Need-mul-solve-3 Inv-loop μ-loop
+mul-solve-3 c = omega arith
+
+element-copy-out-solve-3 : tie.Need-element-copy-out-solve-3 Inv-loop μ-loop
+element-copy-out-solve-3 c = omega arith
+
+solve-requires : tie.Need-solve-requires Inv-loop μ-loop
+solve-requires c κs = omega arith
+
+add-next : tie.Need-add-next Inv-loop μ-loop
+add-next c = omega arith
+
+mul-next : tie.Need-mul-next Inv-loop μ-loop
+mul-next c = omega arith
+
+array-set-from-next : tie.Need-array-set-from-next Inv-loop μ-loop
+array-set-from-next c = omega arith
+
+add-j : tie.Need-add-j Inv-loop μ-loop
+add-j c = omega arith
+
+loop-less : tie.Need-loop-less Inv-loop μ-loop
+loop-less c = omega arith
+
+loop-again : tie.Need-loop-again Inv-loop μ-loop
+loop-again c =
+    let k = c .before .before .before .before .before in let z = k .before in let s = z .before in let a = s .args in
+    let j = k .loop .j in let h = (4 - j / 2) * 2 + j % 2 in
+    let q : j < laneCount = c .before .before .before .before .loop-test .taken in (
+      omega arith,
+      refl,
+      λ l e. fill-more (stepFit (a .xs .now) (a .cs .now) (a .ts .now) (a .w)) l _ (a .step + j) (a .step + (j + 1)) _ (k .loop .inv .2 l e)
+          (c .solve .ensures ∙ lane-fit (a .xs .now) _ _ (a .w) (14 - a .step) h (a .step + j) (lane (z .ten-sums .result) h) (λ i. omega (arith, s .pre)) (z .ten-sums .ensures h (omega arith)) (s .pre .3))
+          (omega arith),
+    )
+
+returns : tie.Need-returns Inv-loop μ-loop
+returns c = let e : c .before .loop .j ≡ laneCount = omega arith in rw e at (c .before .loop .inv .2)
+
+pub ten-fits-spec : {M : Type 1} → statement M
+ten-fits-spec =
+    tie.close
+    (tie.spec
+    Inv-loop
+    μ-loop
+    sub-ten-sums
+    ten-sums-requires
+    loop-holds
+    sub-h
+    mul-h
+    add-h
+    mul-solve
+    element-copy-out-solve
+    mul-solve-2
+    element-copy-out-solve-2
+    mul-solve-3
+    element-copy-out-solve-3
+    solve-requires
+    add-next
+    mul-next
+    array-set-from-next
+    add-j
+    loop-less
+    loop-again
+    returns)

@@ -1,0 +1,64 @@
+-- `least_squares::Sums::solve` meets its contract: each call is one of the definition's steps.
+use borrow.Author.Needs.{needs}
+use Rattle.least_squares.specs.Solve.{dot, residualOf, solveIf, solveWith, solve}
+use Rattle.least_squares.proofs.Sums.solve.Statement.{statement}
+use Rattle.least_squares.proofs.Sums.solve.Tie as tie
+
+factored-requires : tie.Need-factored-requires
+factored-requires c κs = search needs
+
+diagonals-above-zero-requires : tie.Need-diagonals-above-zero-requires
+diagonals-above-zero-requires c κs = search needs
+
+forward-solved-requires : tie.Need-forward-solved-requires
+forward-solved-requires c κs = search needs
+
+backward-solved-requires : tie.Need-backward-solved-requires
+backward-solved-requires c κs = search needs
+
+dot-product-requires : tie.Need-dot-product-requires
+dot-product-requires c κs = search needs
+
+max-zero-requires : tie.Need-max-zero-requires
+max-zero-requires c κs = search needs
+
+fit-if-finite-requires : tie.Need-fit-if-finite-requires
+fit-if-finite-requires c κs = search needs
+
+returns : tie.Need-returns
+unfolding solve solveWith solveIf residualOf
+returns c =
+    let dot = c .before .before .before .before in
+    let back = dot .before .before .before in
+    let forth = back .before .before .before in
+    let taken = forth .before .before .before in
+    let tested = taken .before in
+    let factors = tested .before .before .before in
+    rw (
+      ← (factors .factored .ensures),
+      ← (tested .diagonals-above-zero .ensures),
+      taken .if1 .taken,
+      ← (forth .forward-solved .ensures),
+      ← (back .backward-solved .ensures),
+      ← (dot .dot-product .ensures),
+      ← (c .before .max-zero .ensures),
+    )
+    (c .fit-if-finite .ensures)
+
+returns-2 : tie.Need-returns-2
+unfolding solve solveWith solveIf
+returns-2 c = rw (← (c .before .before .before .before .factored .ensures), ← (c .before .diagonals-above-zero .ensures), c .if1 .left)
+
+pub solve-spec : {M : Type 1} → statement M
+solve-spec =
+    tie.close
+    (tie.spec
+    factored-requires
+    diagonals-above-zero-requires
+    forward-solved-requires
+    backward-solved-requires
+    dot-product-requires
+    max-zero-requires
+    fit-if-finite-requires
+    returns
+    returns-2)

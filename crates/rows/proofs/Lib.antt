@@ -1,0 +1,6 @@
+pub mod Each
+pub mod Walked
+pub mod Together
+pub mod Prefix
+pub mod Pairing
+pub mod Shared
