@@ -1,14 +1,14 @@
 // The recorded fit: least squares of the rate's change on the last rates and the recorded moments, a fit for each whole delay.
 ghost use mathlib.Core.Path.{_≡_};
-ghost use Prim.Native.Nat.{_≤_, _<_};
+ghost use Prim.Native.Nat.{_≤_};
 ghost use lib.ListN.{length, getD, take};
 ghost use Rattle.float.specs.Values.{zero32, whole32};
 ghost use Rattle.delay.specs.Tie.{entryCount};
 ghost use Rattle.window.specs.Samples.{capacity};
 ghost use Rattle.least_squares.specs.declared.Solved.the-variants.{NoFit};
 ghost use Rattle.rows.specs.Rows.{sumRows};
-ghost use Rattle.recorded.specs.Classify.{atLeastOne, effectOf, entryOf, entries as entriesOf, modelOf, fitAt, fitRecorded, atRail, countAtRail, saturated as saturatedBy, classify as classOfWindow};
-ghost use Rattle.recorded.specs.Stages.{Stored, solvedBelow, solvedList, rowsBelow, rowsDtBelow};
+ghost use Rattle.recorded.specs.Classify.{atLeastOne, entryOf, entries as entriesOf, modelOf, fitAt, fitRecorded, atRail, countAtRail, saturated as saturatedBy, classify as classOfWindow};
+ghost use Rattle.recorded.specs.Stages.{Stored, solvedBelow, solvedList, rowsBelow};
 use delay::Delay;
 use delay::Entry;
 use delay::Position;
@@ -30,13 +30,13 @@ pub enum Classified {
     Saturated,
 }
 
-// How much of the fastest fit's residual ties with it.
+// A residual this share above the least one ties with it.
 const TIE_SHARE: f32 = 0.01;
 // The residual a tick, in rad/s, above which a window is noisy.
 const NOISY_RESIDUAL_RADPS: f32 = 0.017;
-// A moment at the rate loop's limit, and the share of such moments above which a window is saturated.
+// A moment's magnitude at the rate loop's limit.
 const SATURATED_MOMENT: f32 = 0.999;
-
+// The share of such moments above which a window is saturated.
 const SATURATED_SHARE: f32 = 0.2;
 
 // ---- what is stored
@@ -85,7 +85,7 @@ fn count_rows(held: &[bool; 2048], n: usize) -> usize
     let mut run = 0;
     for k in 0..n {
         run = rows::next_run(held[k], run);
-        if run < 12 {
+        if run < rows::HISTORY {
             continue;
         }
         rows = rows + 1;
@@ -102,7 +102,7 @@ fn sum_rows_dt(held: &[bool; 2048], n: usize, dt_s: f32) -> f32
     let mut run = 0;
     for k in 0..n {
         run = rows::next_run(held[k], run);
-        if run < 12 {
+        if run < rows::HISTORY {
             continue;
         }
         sum = sum + dt_s;

@@ -20,6 +20,9 @@ pub struct SharedSums {
     pub pairs2: [f32; 12],
 }
 
+// Good ticks in a row from which a tick makes a row: the longest delay's last moment stands eleven ticks before it.
+pub const HISTORY: usize = 12;
+
 // ---- one delay by itself
 
 // How many good ticks stand in a row once a tick with this mark is counted: a held one empties the history.
@@ -95,7 +98,7 @@ pub fn add_window(
     let mut run = 0;
     for k in 0..len {
         run = next_run(held[k], run);
-        if run < 12 {
+        if run < HISTORY {
             continue;
         }
         let terms = regressors(rates, moments, d, k);
@@ -148,7 +151,7 @@ fn sum_common(rates: &[f32; 2048], held: &[bool; 2048], len: usize) -> [f32; 16]
     let mut run = 0;
     for k in 0..len {
         run = next_run(held[k], run);
-        if run < 12 {
+        if run < HISTORY {
             continue;
         }
         let terms = common_terms(rates, k);
@@ -190,7 +193,7 @@ fn sum_lagged(
     let mut run = 0;
     for k in 0..len {
         run = next_run(held[k], run);
-        if run < 12 {
+        if run < HISTORY {
             continue;
         }
         let terms = common_terms(rates, k);
@@ -217,7 +220,7 @@ fn sum_pairs(moments: &[f32; 2048], held: &[bool; 2048], o: usize, len: usize) -
     let mut run = 0;
     for k in 0..len {
         run = next_run(held[k], run);
-        if run < 12 {
+        if run < HISTORY {
             continue;
         }
         add_pairs(&mut sums, moments, o, k);

@@ -2,7 +2,6 @@
 use Prim.Native.Nat.{_≤_, _<_, _-_}
 use mathlib.Core.Path.{_≡_, sym, ap, _∙_}
 use native.Mathlib.Omega.{arith}
-use native.Mathlib.Nat.{le-trans}
 use borrow.Author.Needs.{needs}
 use Rattle.delay.specs.Tie.{delayToFit}
 use Rattle.recorded.specs.Classify.{tieShare, maxDelay, entries, fitOf}
@@ -28,13 +27,13 @@ count-rows-requires : tie.Need-count-rows-requires
 count-rows-requires c κs = within-capacity (c .stored .ensures)
 
 at-least-one-requires : tie.Need-at-least-one-requires
-at-least-one-requires c κs = within-capacity (c .before .stored .ensures)
+at-least-one-requires c κs = let w = within-capacity (c .before .stored .ensures) in omega (arith, c .count-rows .ensures .1)
 
 sum-rows-dt-requires : tie.Need-sum-rows-dt-requires
 sum-rows-dt-requires c κs = within-capacity (c .before .before .stored .ensures)
 
 at-least-one-requires-2 : tie.Need-at-least-one-requires-2
-at-least-one-requires-2 c κs = le-trans (c .before .before .count-rows .ensures .1) (within-capacity (c .before .before .before .stored .ensures))
+at-least-one-requires-2 c κs = let w = within-capacity (c .before .before .before .stored .ensures) in omega (arith, c .before .before .count-rows .ensures .1)
 
 solve-delays-requires : tie.Need-solve-delays-requires
 solve-delays-requires c κs = within-capacity (c .before .before .before .before .stored .ensures)
@@ -61,7 +60,10 @@ array-copy-out-solved : tie.Need-array-copy-out-solved
 array-copy-out-solved c = omega (arith, winner c .0, winner c .1)
 
 fit-requires : tie.Need-fit-requires
-fit-requires c κs = (omega (arith, winner (c .before) .1), le-trans (c .before .before .before .before .before .before .before .before .before .before .count-rows .ensures .1) (within-capacity (c .before .before .before .before .before .before .before .before .before .before .before .stored .ensures)))
+fit-requires c κs =
+    let rows = c .before .before .before .before .before .before .before .before .before .before in
+    let w = within-capacity (rows .before .stored .ensures) in
+    (omega (arith, winner (c .before) .1), omega (arith, rows .count-rows .ensures .1))
 
 returns : tie.Need-returns
 unfolding fitOf

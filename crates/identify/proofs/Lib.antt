@@ -1,0 +1,6 @@
+pub mod Limits
+pub mod Rules
+pub mod Opening
+pub mod Closing
+pub mod Ticking
+pub mod Stepping
