@@ -1,12 +1,12 @@
 // The gain fits of one pole at all 20 steps, ten steps in one loop: they wait for each other's sums and not for their own.
 ghost use mathlib.Core.Path.{_≡_};
-ghost use Prim.Native.Nat.{ℕ, _+_, _*_, _%_, _≤_, _<_};
+ghost use Prim.Native.Nat.{ℕ, _+_, _*_, _≤_, _<_};
 ghost use mathlib.Core.List.{List};
 ghost use lib.ListN.{replicate};
 ghost use Rattle.float.specs.Series.{at, fill};
 ghost use Rattle.gain.specs.Gain.{stepCount, through};
 ghost use Rattle.gain.specs.Prepared.{Summed, Totals};
-ghost use Rattle.kernel.specs.Kernel.{laneCount, lane, stepFit};
+ghost use Rattle.kernel.specs.Kernel.{laneCount, laneAt, lane, solvedLane, stepFit};
 use gain::GainFit;
 use gain::Shared;
 
@@ -48,21 +48,11 @@ fn ten_sums(
     TenSums { mm, mc, mt }
 }
 
-// The fits of ten steps, put in their places. A step and its longer neighbours stand in falling order among the lanes, two to a whole tick.
-// Asked for steps 0 to 9 and 10 to 19 only.
-fn ten_fits(
-    xs: &[f64; 4096],
-    cs: &[f64; 2048],
-    ts: &[f64; 2048],
-    w: Shared,
-    step: usize,
-    fits: [GainFit; 20],
-) -> [GainFit; 20]
-    requires { ⌜ (w .ticks ≤ 2037) × (step ≤ 10) × (step % 2 ≡ 0) × Totals (at (now cs)) (at (now ts)) w ⌝ }
-    ensures { λ r. ⌜ ((l : List GainFit) → fits ≡ fill (stepFit (now (xs .entry)) (now (cs .entry)) (now (ts .entry)) w) l step → r ≡ fill (stepFit (now (xs .entry)) (now (cs .entry)) (now (ts .entry)) w) l (step + laneCount)) ⌝ }
+// The fits of ten steps from their sums, put in their places from step on: among the lanes a longer delay stands before a shorter one, two lanes to a whole tick.
+fn ten_fits(sums: TenSums, w: Shared, step: usize, fits: [GainFit; 20]) -> [GainFit; 20]
+    requires { ⌜ step ≤ 10 ⌝ }
+    ensures { λ r. ⌜ ((f : ℕ → List GainFit → GainFit) (l : List GainFit) → fits ≡ fill f l step → ((j : ℕ) (k : List GainFit) → j < laneCount → solvedLane sums w (laneAt j) ≡ f (step + j) k) → r ≡ fill f l (step + laneCount)) ⌝ }
 {
-    let ticks = w.ticks;
-    let sums = ten_sums(xs, cs, ts, w.carry, 14 - step, ticks);
     let mut next = fits;
     for j in 0..10usize {
         let h = (4 - j / 2) * 2 + j % 2;
@@ -76,6 +66,8 @@ pub fn fit_steps(xs: &[f64; 4096], cs: &[f64; 2048], ts: &[f64; 2048], w: Shared
     requires { ⌜ (w .ticks ≤ 2037) × Totals (at (now cs)) (at (now ts)) w ⌝ }
     ensures { λ r. ⌜ r ≡ fill (stepFit (now (xs .entry)) (now (cs .entry)) (now (ts .entry)) w) (replicate stepCount GainFit.Nothing) stepCount ⌝ }
 {
+    let short = ten_sums(xs, cs, ts, w.carry, 14, w.ticks);
+    let long = ten_sums(xs, cs, ts, w.carry, 4, w.ticks);
     let none = [GainFit::Nothing; 20];
-    ten_fits(xs, cs, ts, w, 10, ten_fits(xs, cs, ts, w, 0, none))
+    ten_fits(long, w, 10, ten_fits(short, w, 0, none))
 }

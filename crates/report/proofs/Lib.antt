@@ -1,2 +1,4 @@
 pub mod Marked
 pub mod Reported
+pub mod Bytes
+pub mod Reading

@@ -1,5 +1,5 @@
 -- `kernel::ten_fits` meets its contract. The loop's invariant: the fits of the first j of the ten steps stand in their places. The measure is the steps left.
-use Prim.Native.Nat.{_≤_, _<_, _-_, _+_, _*_, _/_, _%_}
+use Prim.Native.Nat.{ℕ, _≤_, _<_, _-_, _+_}
 use mathlib.Core.Path.{_≡_, refl, _∙_}
 use mathlib.Core.List.{List}
 use native.Mathlib.Nat.{add-zero}
@@ -7,25 +7,18 @@ use native.Mathlib.Omega.{arith}
 use Rattle.float.specs.Series.{fill}
 use Rattle.gain.specs.declared.GainFit.{GainFit}
 use Rattle.gain.proofs.Fill.{fill-more}
-use Rattle.kernel.specs.Kernel.{laneCount, lane, stepFit}
-use Rattle.kernel.proofs.Steps.{lane-fit}
+use Rattle.kernel.specs.Kernel.{laneCount, laneAt, solvedLane}
 use Rattle.kernel.proofs.ten_fits.Statement.{statement}
 use Rattle.kernel.proofs.ten_fits.Tie as tie
 
 abbrev Inv-loop : tie.InvT-loop
-Inv-loop xs cs ts w step ticks sums next₀ j₀ next j = (j ≤ laneCount) × (ticks ≡ w .ticks) × ((l : List GainFit) → next₀ ≡ fill (stepFit xs cs ts w) l step → next ≡ fill (stepFit xs cs ts w) l (step + j))
+Inv-loop w step sums next₀ j₀ next j = (j ≤ laneCount) × ((f : ℕ → List GainFit → GainFit) (l : List GainFit) → next₀ ≡ fill f l step → ((i : ℕ) (k : List GainFit) → i < laneCount → solvedLane sums w (laneAt i) ≡ f (step + i) k) → next ≡ fill f l (step + j))
 
 abbrev μ-loop : tie.MeasureT-loop
-μ-loop xs cs ts w step ticks sums next₀ j₀ next j = laneCount - j
-
-sub-ten-sums : tie.Need-sub-ten-sums Inv-loop μ-loop
-sub-ten-sums c = omega arith
-
-ten-sums-requires : tie.Need-ten-sums-requires Inv-loop μ-loop
-ten-sums-requires c κs = omega arith
+μ-loop w step sums next₀ j₀ next j = laneCount - j
 
 loop-holds : tie.Need-loop-holds Inv-loop μ-loop
-loop-holds c = (omega arith, refl, λ l e. rw add-zero e)
+loop-holds c = (omega arith, λ f l e s. rw add-zero e)
 
 sub-h : tie.Need-sub-h Inv-loop μ-loop
 sub-h c = omega arith
@@ -74,18 +67,13 @@ loop-less c = omega arith
 
 loop-again : tie.Need-loop-again Inv-loop μ-loop
 loop-again c =
-    let k = c .before .before .before .before .before in let z = k .before in let s = z .before in let a = s .args in
-    let j = k .loop .j in let h = (4 - j / 2) * 2 + j % 2 in
-    let q : j < laneCount = c .before .before .before .before .loop-test .taken in (
-      omega arith,
-      refl,
-      λ l e. fill-more (stepFit (a .xs .now) (a .cs .now) (a .ts .now) (a .w)) l _ (a .step + j) (a .step + (j + 1)) _ (k .loop .inv .2 l e)
-          (c .solve .ensures ∙ lane-fit (a .xs .now) _ _ (a .w) (14 - a .step) h (a .step + j) (lane (z .ten-sums .result) h) (λ i. omega (arith, s .pre)) (z .ten-sums .ensures h (omega arith)) (s .pre .3))
-          (omega arith),
-    )
+    let t = c .before .before .before .before in let k = t .before in let a = k .before .args in
+    let j = k .loop .j in
+    let q : j < laneCount = t .loop-test .taken in
+    (omega arith, λ f l e s. fill-more f l _ (a .step + j) (a .step + (j + 1)) _ (k .loop .inv .1 f l e s) (c .solve .ensures ∙ s j _ q) (omega arith))
 
 returns : tie.Need-returns Inv-loop μ-loop
-returns c = let e : c .before .loop .j ≡ laneCount = omega arith in rw e at (c .before .loop .inv .2)
+returns c = let e : c .before .loop .j ≡ laneCount = omega arith in rw e at (c .before .loop .inv .1)
 
 pub ten-fits-spec : {M : Type 1} → statement M
 ten-fits-spec =
@@ -93,8 +81,6 @@ ten-fits-spec =
     (tie.spec
     Inv-loop
     μ-loop
-    sub-ten-sums
-    ten-sums-requires
     loop-holds
     sub-h
     mul-h

@@ -1,0 +1,98 @@
+-- `recorded_vectors::sums` is safe and ends: each loop's counter stays within its range, which is the measure.
+use Prim.Native.Nat.{_≤_, _-_}
+use borrow.Author.Needs.{needs}
+use Rattle.recorded_vectors.proofs.sums.Statement.{statement}
+use Rattle.recorded_vectors.proofs.sums.Tie as tie
+
+abbrev Inv-loop : tie.InvT-loop
+Inv-loop fd first normal₀ n₀ normal n = n ≤ 36
+
+abbrev μ-loop : tie.MeasureT-loop
+μ-loop fd first normal₀ n₀ normal n = 36 - n
+
+abbrev Inv-loop2 : tie.InvT-loop2
+Inv-loop2 fd first normal projected₀ i₀ projected i = i ≤ 6
+
+abbrev μ-loop2 : tie.MeasureT-loop2
+μ-loop2 fd first normal projected₀ i₀ projected i = 6 - i
+
+from-word-requires : tie.Need-from-word-requires Inv-loop μ-loop Inv-loop2 μ-loop2
+from-word-requires c κs = search needs
+
+array-write-normal : tie.Need-array-write-normal Inv-loop μ-loop Inv-loop2 μ-loop2
+array-write-normal c = search needs
+
+loop-holds : tie.Need-loop-holds Inv-loop μ-loop Inv-loop2 μ-loop2
+loop-holds c = search needs
+
+number-requires : tie.Need-number-requires Inv-loop μ-loop Inv-loop2 μ-loop2
+number-requires c κs = search needs
+
+mul-normal : tie.Need-mul-normal Inv-loop μ-loop Inv-loop2 μ-loop2
+mul-normal c = search needs
+
+array-write-normal-2 : tie.Need-array-write-normal-2 Inv-loop μ-loop Inv-loop2 μ-loop2
+array-write-normal-2 c = search needs
+
+add-n : tie.Need-add-n Inv-loop μ-loop Inv-loop2 μ-loop2
+add-n c = search needs
+
+loop-less : tie.Need-loop-less Inv-loop μ-loop Inv-loop2 μ-loop2
+loop-less c = search needs
+
+loop-again : tie.Need-loop-again Inv-loop μ-loop Inv-loop2 μ-loop2
+loop-again c = search needs
+
+loop2-holds : tie.Need-loop2-holds Inv-loop μ-loop Inv-loop2 μ-loop2
+loop2-holds c = search needs
+
+number-requires-2 : tie.Need-number-requires-2 Inv-loop μ-loop Inv-loop2 μ-loop2
+number-requires-2 c κs = search needs
+
+mul-projected : tie.Need-mul-projected Inv-loop μ-loop Inv-loop2 μ-loop2
+mul-projected c = search needs
+
+array-write-projected : tie.Need-array-write-projected Inv-loop μ-loop Inv-loop2 μ-loop2
+array-write-projected c = search needs
+
+add-i : tie.Need-add-i Inv-loop μ-loop Inv-loop2 μ-loop2
+add-i c = search needs
+
+loop2-less : tie.Need-loop2-less Inv-loop μ-loop Inv-loop2 μ-loop2
+loop2-less c = search needs
+
+loop2-again : tie.Need-loop2-again Inv-loop μ-loop Inv-loop2 μ-loop2
+loop2-again c = search needs
+
+number-requires-3 : tie.Need-number-requires-3 Inv-loop μ-loop Inv-loop2 μ-loop2
+number-requires-3 c κs = search needs
+
+returns : tie.Need-returns Inv-loop μ-loop Inv-loop2 μ-loop2
+returns c = search needs
+
+pub sums-spec : {M : Type 1} → statement M
+sums-spec =
+    tie.close
+    (tie.spec
+    Inv-loop
+    μ-loop
+    Inv-loop2
+    μ-loop2
+    from-word-requires
+    array-write-normal
+    loop-holds
+    number-requires
+    mul-normal
+    array-write-normal-2
+    add-n
+    loop-less
+    loop-again
+    loop2-holds
+    number-requires-2
+    mul-projected
+    array-write-projected
+    add-i
+    loop2-less
+    loop2-again
+    number-requires-3
+    returns)

@@ -1,0 +1,56 @@
+-- A report's bytes: 36 of them, nine words one after another, with the replies of a byte run behind them.
+use Prim.Native.Nat.{ℕ, _/_, _%_, _^_, _≤_, _<_}
+use mathlib.Core.Path.{_≡_, refl, _∙_}
+use mathlib.Core.List.{List, [], _∷_, _++_, map}
+use native.Mathlib.Omega.{arith}
+use lib.Dec.{lit<}
+use lib.ListN.{length, length-append, length-map}
+use Rattle.wire.specs.Words.{bytesOf, wordBytes, wordOf, writtenAt}
+use Rattle.wire.proofs.Bytes.{length-bytes, length-words, one-word, three-words}
+use Rattle.wire.proofs.Written.{front-written, written-next, written-before, word-next}
+use Rattle.account.specs.declared.IdentifyStatus.{IdentifyStatus}
+use Rattle.account.specs.declared.IdentifyStatus.the-variants.{Running, Done, Unexcited, Saturated}
+use Rattle.report.specs.declared.Report.{Report}
+use Rattle.report.specs.Report.{kindOf, floatsOf, fieldsOf, packed, reportBytes}
+use Rattle.report.specs.ByteRun.{onto}
+
+pub kind-small : (s : IdentifyStatus) → kindOf s < 4
+unfolding kindOf
+kind-small (Running e) = lit< tt
+kind-small (Done m) = lit< tt
+kind-small Unexcited = lit< tt
+kind-small Saturated = lit< tt
+
+six-floats : (s : IdentifyStatus) → length (floatsOf s) ≡ 6
+unfolding floatsOf
+six-floats (Running e) = refl
+six-floats (Done m) = refl
+six-floats Unexcited = refl
+six-floats Saturated = refl
+
+pub length-report : (r : Report) → length (reportBytes r) ≡ 36
+unfolding reportBytes
+length-report r = rw (length-append, length-bytes, length-words, length-map, six-floats)
+
+-- three words, written one after another
+pub fields-written : (n : ℕ) (l : List ℕ) → 12 ≤ length l → writtenAt 8 (bytesOf 4 (n % 2 ^ 32)) (writtenAt 4 (bytesOf 4 (n / 2 ^ 32 % 2 ^ 32)) (writtenAt 0 (bytesOf 4 (n / 2 ^ 64)) l)) ≡ writtenAt 0 (bytesOf 12 n) l
+fields-written n l h =
+    let a = n / 2 ^ 64 in
+    let b = n / 2 ^ 32 % 2 ^ 32 in
+    rw (three-words n, ← one-word a, word-next 0 1 (a ∷ []) b l refl (omega arith)) (word-next 0 2 (a ∷ b ∷ []) (n % 2 ^ 32) l refl (omega arith))
+
+-- the floats behind the fields
+pub report-written : (r : Report) (l : List ℕ) → 36 ≤ length l → writtenAt 12 (wordBytes (map wordOf (floatsOf (r .status)))) (writtenAt 0 (bytesOf 12 (packed 0 (fieldsOf r))) l) ≡ writtenAt 0 (reportBytes r) l
+unfolding reportBytes
+report-written r l h =
+    let fields = bytesOf 12 (packed 0 (fieldsOf r)) in
+    let e : length fields ≡ 12 = length-bytes 12 (packed 0 (fieldsOf r)) in
+    rw e at (written-next 0 fields (wordBytes (map wordOf (floatsOf (r .status)))) l (rw e (omega arith)))
+
+-- a report in front of the words that are written behind it
+pub run-written : (r : Report) (ws l : List ℕ) → 36 ≤ length l → writtenAt 0 (reportBytes r) (writtenAt 36 (wordBytes ws) l) ≡ onto (reportBytes r ++ wordBytes ws) l
+unfolding onto
+run-written r ws l h =
+    let report = reportBytes r in
+    let e : length report ≡ 36 = length-report r in
+    rw e at (written-before 0 report (wordBytes ws) l (rw e h)) ∙ front-written (report ++ wordBytes ws) l

@@ -1,0 +1,40 @@
+-- What a byte run reads: the flag of a configuration, the sizes of its slices, the calls.
+use Prim.Native.Nat.{ℕ, zero, suc, _+_, _*_, _/_, _%_, _≤_}
+use mathlib.Core.Path.{_≡_, refl}
+use mathlib.Core.Bool.{true, _&&_, and-eq-true-iff}
+use mathlib.Core.List.{List}
+use native.Mathlib.Numerals.{add-one}
+use borrow.Author.Tests.{eqb-true, leb-true}
+use lib.Dec.{eqb}
+use lib.ListN.{length, length-append}
+use Rattle.account.specs.declared.Noisy.the-variants.{Absent, Present}
+use Rattle.wire.specs.Words.{floatAt}
+use Rattle.report.specs.ByteRun.{extensionOf, callsTo, sized}
+
+pub absent : (flag : ℕ) (bytes : List ℕ) → flag ≡ 0 → extensionOf flag bytes ≡ Absent
+unfolding extensionOf
+absent flag bytes e = rw e
+
+pub present : (flag : ℕ) (bytes : List ℕ) → (flag ≡ 0 → ⊥) → extensionOf flag bytes ≡ Present (record { amplitude = floatAt bytes 16; «duration_s» = floatAt bytes 20 })
+unfolding extensionOf
+present zero bytes n = absurd (n refl)
+present (suc flag) bytes n = refl
+
+-- slices that pass rule 9
+module _ (config calls output : List ℕ) (good : sized config calls output ≡ true) where
+  pub config-size : length config ≡ 24
+  unfolding sized
+  config-size =
+      let front = eqb (length config) 24 && eqb (length calls % 12) 0 in
+      eqb-true (length config) 24 (and-eq-true-iff _ _ .0 (and-eq-true-iff front _ .0 good .0) .0)
+
+  pub output-size : 36 + 4 * (length calls / 12) ≤ length output
+  unfolding sized
+  output-size =
+      let front = eqb (length config) 24 && eqb (length calls % 12) 0 in
+      leb-true (36 + 4 * (length calls / 12)) (length output) (and-eq-true-iff front _ .0 good .1)
+
+pub length-calls : (bytes : List ℕ) (n : ℕ) → length (callsTo bytes n) ≡ n
+unfolding callsTo
+length-calls bytes zero = refl
+length-calls bytes (suc n) = rw (length-append, length-calls bytes n, add-one)
