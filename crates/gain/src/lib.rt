@@ -165,7 +165,7 @@ fn first_place(step: usize) -> usize
     (12 - whole) * 2 + step % 2
 }
 
-// The fit of a step at a pole, from a window's moments, its two leaky series and their sums.
+// The fit of a step at a pole, from a window's moments, its two leaky series and their sums. Asked with what `prepare` made of a window only.
 pub fn fit_at(
     moments: &[f32; 2048],
     cs: &[f64; 2048],

@@ -1,6 +1,6 @@
 // The integrated fit: for a noisy window, a gain at each lag and each delay in half ticks, and a search between the lags.
 ghost use mathlib.Core.Path.{_≡_};
-ghost use Prim.Native.Nat.{_-_, _≤_, _<_, min};
+ghost use Prim.Native.Nat.{_-_, _≤_, min};
 ghost use lib.ListN.{length, take, getD, replicate};
 ghost use Rattle.float.specs.Series.{at, fill};
 ghost use Rattle.delay.specs.declared.Entry.the-variants as entry;

@@ -1,4 +1,4 @@
-// The gain fits of one pole at all 20 steps, ten steps in one loop: they wait for each other's sums and not for their own.
+// The gain fits of one pole at all 20 steps, ten steps in one loop, so that no sum waits for the one before it.
 ghost use mathlib.Core.Path.{_≡_};
 ghost use Prim.Native.Nat.{ℕ, _+_, _*_, _≤_, _<_};
 ghost use mathlib.Core.List.{List};
@@ -17,7 +17,7 @@ pub struct TenSums {
     pub mt: [f64; 10],
 }
 
-// The sums of ten steps, whose regressors stand side by side from first on.
+// The sums of ten steps, whose regressors stand side by side from first on. The solving stands apart, so that the lanes stay packed in vector registers.
 fn ten_sums(
     xs: &[f64; 4096],
     cs: &[f64; 2048],
@@ -61,7 +61,7 @@ fn ten_fits(sums: TenSums, w: Shared, step: usize, fits: [GainFit; 20]) -> [Gain
     next
 }
 
-// The fits of all steps, from the woven regressors of a pole.
+// The fits of all steps, from the woven regressors of a pole. Asked with what `gain::prepare` made of a window only.
 pub fn fit_steps(xs: &[f64; 4096], cs: &[f64; 2048], ts: &[f64; 2048], w: Shared) -> [GainFit; 20]
     requires { ⌜ (w .ticks ≤ 2037) × Totals (at (now cs)) (at (now ts)) w ⌝ }
     ensures { λ r. ⌜ r ≡ fill (stepFit (now (xs .entry)) (now (cs .entry)) (now (ts .entry)) w) (replicate stepCount GainFit.Nothing) stepCount ⌝ }

@@ -1,6 +1,6 @@
 -- `kernel::ten_fits` meets its contract. The loop's invariant: the fits of the first j of the ten steps stand in their places. The measure is the steps left.
 use Prim.Native.Nat.{ℕ, _≤_, _<_, _-_, _+_}
-use mathlib.Core.Path.{_≡_, refl, _∙_}
+use mathlib.Core.Path.{_≡_, _∙_}
 use mathlib.Core.List.{List}
 use native.Mathlib.Nat.{add-zero}
 use native.Mathlib.Omega.{arith}
