@@ -1,3 +1,4 @@
 pub mod Report
 pub mod ByteRun
 pub mod Calls
+pub mod Answers

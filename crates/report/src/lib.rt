@@ -1,16 +1,25 @@
 // The report and the byte run.
 ghost use mathlib.Core.Path.{_≡_};
-ghost use mathlib.Core.List.{map};
-ghost use Prim.Native.Nat.{_+_, _/_, _%_, _^_, _≤_};
+ghost use mathlib.Core.Bool.{Bool};
+ghost use mathlib.Core.List.{List, map};
+ghost use Prim.Native.Nat.{_+_, _*_, _/_, _%_, _^_, _≤_};
 ghost use lib.ListN.{length};
 ghost use Rattle.wire.specs.Words.{bytesOf, wordAt, wordBytes, wordOf, writtenAt};
-ghost use Rattle.report.specs.Report.{kindOf, delayOf, floatsOf, fieldsOf, packed, reportBytes};
-ghost use Rattle.report.specs.ByteRun.{extensionOf, configOf, callAt, sized};
+ghost use Rattle.report.specs.Report.{kindOf, delayOf, floatsOf, fieldsOf, packed, reportBytes, onceEnded, ofProbe};
+ghost use lib.Ieee.{Float};
+ghost use Rattle.account.specs.Probe.{number, clock, step, after, replies};
+ghost use Rattle.account.specs.declared.IdentifyConfig.{IdentifyConfig};
+ghost use Rattle.identify.specs.Seen.{seen, answered, freshProbe};
+ghost use Rattle.report.specs.Answers.{replyOf};
+ghost use Rattle.report.specs.ByteRun.{extensionOf, configOf, callAt, callsOf, replyWord, written, onto, sized, byteRun};
 ghost use Rattle.report.specs.Calls.{asCall};
 use account::IdentifyConfig;
 use account::IdentifyExtension;
 use account::IdentifyStatus;
 use account::Noisy;
+use identify::IdentifyProbe;
+use identify::Opened;
+use identify::Stepped;
 
 // What a report says of a probe.
 pub struct Report {
@@ -187,5 +196,156 @@ fn call_at(calls: &[u8], at: usize) -> Call
         dt: wire::read_float(calls, at),
         rate: wire::read_float(calls, at + 4),
         moment: wire::read_float(calls, at + 8),
+    }
+}
+
+// ---- a byte run
+
+// The word that a call writes: its offset, or 7FC00000 and the number of the rule that turned it back.
+fn reply_word(stepped: Stepped) -> u32
+    requires { ⌜ number (replyOf stepped) ≤ 8 ⌝ }
+    ensures { λ r. ⌜ r ≡ replyWord (replyOf stepped) ⌝ }
+{
+    match stepped {
+        Stepped::Offset(x, _) => float::to_word(x),
+        Stepped::Refused(n) => 0x7fc0_0000 + n,
+    }
+}
+
+// The probe that a call leaves: on a refusal the one that it found.
+fn next_probe(stepped: Stepped, probe: IdentifyProbe) -> IdentifyProbe
+    ensures { λ r. ⌜ ((rates moments offsets : List Float) (marks : List Bool) → seen r rates moments offsets marks ≡ answered stepped probe rates moments offsets marks .probe) ⌝ }
+{
+    match stepped {
+        Stepped::Offset(_, next) => next,
+        Stepped::Refused(_) => probe,
+    }
+}
+
+// Call k of a run, and its word.
+fn run_call(
+    probe: IdentifyProbe,
+    rates: &mut [f32; 2048],
+    moments: &mut [f32; 2048],
+    offsets: &mut [f32; 2048],
+    held: &mut [bool; 2048],
+    calls: &[u8],
+    k: usize,
+    output: &mut [u8],
+) -> IdentifyProbe
+    requires { ⌜ (12 * k + 12 ≤ length (now calls)) × (36 + 4 * k + 4 ≤ length (now output)) ⌝ }
+    ensures probe { λ r. ⌜ seen r (now (rates .exit)) (now (moments .exit)) (now (offsets .exit)) (now (held .exit)) ≡ step (seen probe (now (rates .entry)) (now (moments .entry)) (now (offsets .entry)) (now (held .entry))) (callAt (now (calls .entry)) (12 * k)) .probe ⌝ }
+    ensures output { λ r. ⌜ now (output .exit) ≡ writtenAt (36 + 4 * k) (bytesOf 4 (replyWord (step (seen probe (now (rates .entry)) (now (moments .entry)) (now (offsets .entry)) (now (held .entry))) (callAt (now (calls .entry)) (12 * k)) .reply))) (now (output .entry)) ⌝ }
+{
+    let call = call_at(calls, 12 * k);
+    let stepped = probe.step(
+        rates,
+        moments,
+        offsets,
+        held,
+        call.dt,
+        call.rate,
+        call.moment,
+    );
+    wire::write_word(output, 36 + 4 * k, reply_word(stepped));
+    next_probe(stepped, probe)
+}
+
+// A count that is 0 until the probe has ended.
+fn once_ended(status: IdentifyStatus, n: usize) -> usize
+    ensures { λ r. ⌜ r ≡ onceEnded (clock status) n ⌝ }
+{
+    match status {
+        IdentifyStatus::Running(_) => 0,
+        IdentifyStatus::Done(_) => n,
+        IdentifyStatus::Unexcited => n,
+        IdentifyStatus::Saturated => n,
+    }
+}
+
+// The arrays are as long as their types say. Taking them by value tells the proofs; compiled, nothing is copied.
+fn are_whole(rates: [f32; 2048], held: [bool; 2048])
+    ensures { λ r. ⌜ (length rates ≡ 2048) × (length held ≡ 2048) ⌝ }
+{}
+
+// The report of a probe and its arrays.
+pub fn report_of(probe: IdentifyProbe, rates: &[f32; 2048], held: &[bool; 2048]) -> Report
+    ensures { λ r. ⌜ ((moments offsets : List Float) → r ≡ ofProbe (seen probe (now (rates .entry)) moments offsets (now (held .entry)))) ⌝ }
+{
+    are_whole(*rates, *held);
+    let window = probe.window;
+    let counts = window::count_ticks(window, held);
+    let status = probe.status;
+    Report {
+        ticks: probe.ticks,
+        stored: window.stored(),
+        held: counts.held,
+        warm: once_ended(status, counts.warm),
+        rows: once_ended(status, counts.rows),
+        status,
+        gain_fits: probe.gain_fits,
+    }
+}
+
+// The calls of a run one after the other.
+fn run_calls(
+    probe: IdentifyProbe,
+    rates: &mut [f32; 2048],
+    moments: &mut [f32; 2048],
+    offsets: &mut [f32; 2048],
+    held: &mut [bool; 2048],
+    calls: &[u8],
+    output: &mut [u8],
+) -> IdentifyProbe
+    requires { ⌜ 36 + 4 * (length (now calls) / 12) ≤ length (now output) ⌝ }
+    ensures probe { λ r. ⌜ seen r (now (rates .exit)) (now (moments .exit)) (now (offsets .exit)) (now (held .exit)) ≡ after (seen probe (now (rates .entry)) (now (moments .entry)) (now (offsets .entry)) (now (held .entry))) (callsOf (now (calls .entry))) ⌝ }
+    ensures output { λ r. ⌜ now (output .exit) ≡ writtenAt 36 (wordBytes (map replyWord (replies (seen probe (now (rates .entry)) (now (moments .entry)) (now (offsets .entry)) (now (held .entry))) (callsOf (now (calls .entry)))))) (now (output .entry)) ⌝ }
+{
+    let mut p = probe;
+    let n = calls.len() / 12;
+    for k in 0..n {
+        p = run_call(p, rates, moments, offsets, held, calls, k, output);
+    }
+    p
+}
+
+// A run of a probe just made: its calls, and then the report.
+fn run(probe: IdentifyProbe, calls: &[u8], output: &mut [u8])
+    requires { ⌜ 36 + 4 * (length (now calls) / 12) ≤ length (now output) ⌝ }
+    ensures { λ r. ⌜ ((c : IdentifyConfig) → probe ≡ freshProbe c → now (output .exit) ≡ onto (written c (callsOf (now (calls .entry)))) (now (output .entry))) ⌝ }
+{
+    let mut rates = [0.0f32; 2048];
+    let mut moments = [0.0f32; 2048];
+    let mut offsets = [0.0f32; 2048];
+    let mut held = [false; 2048];
+    let last = run_calls(
+        probe,
+        &mut rates,
+        &mut moments,
+        &mut offsets,
+        &mut held,
+        calls,
+        output,
+    );
+    write_report(output, report_of(last, &rates, &held));
+}
+
+// A run from a configuration of 24 bytes over calls of 12 bytes each. It writes the report and then one word a call.
+// It answers 0, or the number of the rule, 1 to 5 or 9, that is broken; then no byte is written.
+#[no_mangle]
+pub extern "C" fn identify_byte_run(config: &[u8], calls: &[u8], output: &mut [u8]) -> u32
+    ensures result { λ r. ⌜ r ≡ byteRun (now (config .entry)) (now (calls .entry)) (now (output .entry)) .result ⌝ }
+    ensures output { λ r. ⌜ now (output .exit) ≡ byteRun (now (config .entry)) (now (calls .entry)) (now (output .entry)) .output ⌝ }
+{
+    if is_sized(config, calls, output) {
+        match IdentifyProbe::new(config_of(config)) {
+            Opened::Refused(number) => number,
+            Opened::Probe(probe) => {
+                run(probe, calls, output);
+                0
+            }
+        }
+    } else {
+        9
     }
 }

@@ -1,0 +1,39 @@
+-- A byte run, by its tests: the sizes, and what the configuration opens.
+use Prim.Native.Nat.{ℕ, zero, suc}
+use mathlib.Core.Path.{_≡_, refl, ap}
+use mathlib.Core.Bool.{true, false}
+use mathlib.Core.List.{List}
+use native.Mathlib.Omega.{arith}
+use Rattle.account.specs.declared.IdentifyConfig.{IdentifyConfig}
+use Rattle.account.specs.Rules.{broken}
+use Rattle.account.specs.Probe.{Call}
+use Rattle.identify.specs.declared.IdentifyProbe.{IdentifyProbe}
+use Rattle.identify.specs.declared.Opened.the-variants.{Probe, Refused}
+use Rattle.identify.specs.Seen.{freshProbe, openedBy}
+use Rattle.report.specs.ByteRun.{Ran, configOf, callsOf, written, onto, sized, ran, runIf, byteRun}
+
+module _ (c : IdentifyConfig) (calls : List Call) (output : List ℕ) where
+  turned-away : (b n : ℕ) → openedBy b c ≡ Refused n → ran b c calls output ≡ record { result = n; output = output }
+  unfolding openedBy ran
+  turned-away zero n h = absurd (let z : _≡_ {A = ℕ} 0 1 = cc in omega arith)
+  turned-away (suc b) n h = let same : suc b ≡ n = cc in rw same
+
+  started : (b : ℕ) (p : IdentifyProbe) → openedBy b c ≡ Probe p → (p ≡ freshProbe c) × (ran b c calls output ≡ record { result = 0; output = onto (written c calls) output })
+  unfolding openedBy ran
+  started zero p h = (cc, refl)
+  started (suc b) p h = absurd (let z : _≡_ {A = ℕ} 0 1 = cc in omega arith)
+
+module _ (config calls output : List ℕ) where
+  pub not-sized : sized config calls output ≡ false → byteRun config calls output ≡ record { result = 9; output = output }
+  unfolding byteRun runIf
+  not-sized h = rw h
+
+  pub run-refused : (n : ℕ) → sized config calls output ≡ true → openedBy (broken (configOf config)) (configOf config) ≡ Refused n
+      → byteRun config calls output ≡ record { result = n; output = output }
+  unfolding byteRun runIf
+  run-refused n h k = rw h (turned-away (configOf config) (callsOf calls) output (broken (configOf config)) n k)
+
+  pub run-started : (p : IdentifyProbe) → sized config calls output ≡ true → openedBy (broken (configOf config)) (configOf config) ≡ Probe p
+      → (p ≡ freshProbe (configOf config)) × (byteRun config calls output ≡ record { result = 0; output = onto (written (configOf config) (callsOf calls)) output })
+  unfolding byteRun runIf
+  run-started p h k = rw h (started (configOf config) (callsOf calls) output (broken (configOf config)) p k)

@@ -1,0 +1,8 @@
+-- What a call of the code's `step` answers, as the definitions say it.
+use Rattle.account.specs.Probe.{Reply, offset, refused}
+use Rattle.identify.specs.declared.Stepped.{Stepped}
+use Rattle.identify.specs.declared.Stepped.the-variants.{Offset, Refused}
+
+unfoldable pub replyOf : Stepped → Reply
+replyOf (Offset x q) = offset x
+replyOf (Refused n) = refused n
