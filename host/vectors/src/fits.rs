@@ -51,7 +51,27 @@ pub fn ties(seed: u64) -> File {
         }
         tie(&mut file, share, &fits);
     }
-    while file.records() < 1_050 {
+    // Every list of up to two entries over a few effects and residuals.
+    let effects = [1.0, -1.0, f32::NAN];
+    let residuals = [0.0, 1.0, 1.007_812_5, 1.25, f32::INFINITY, f32::NAN];
+    let choices: Vec<Option<(f32, f32)>> = std::iter::once(None)
+        .chain(effects.iter().flat_map(|&effect| {
+            residuals
+                .iter()
+                .map(move |&residual| Some((effect, residual)))
+        }))
+        .collect();
+    for share in [0.0, 0.01] {
+        for first in &choices {
+            for second in &choices {
+                let mut fits = [None; 21];
+                fits[0] = *first;
+                fits[1] = *second;
+                tie(&mut file, share, &fits);
+            }
+        }
+    }
+    while file.records() < 1_750 {
         let share = random.pick(&[0.0, 0.01, 0.01, 0.01, 0.5]);
         let present = random.pick(&[1, 2, 3, 20, 21]);
         let kind = random.below(5);
@@ -321,6 +341,14 @@ pub fn gain(seed: u64) -> File {
 pub fn integrated(seed: u64) -> File {
     let mut file = File::default();
     let mut kept: BTreeMap<&str, usize> = BTreeMap::new();
+    // The first 12, 13 and 14 samples of longer windows.
+    for (number, (family, samples)) in windows(seed + 38, 130)
+        .filter(|(_, samples)| samples.len() > 14)
+        .take(30)
+        .enumerate()
+    {
+        integrated_record(&mut file, family, &first(samples, 12 + number % 3));
+    }
     for (family, samples) in windows(seed + 37, 130).take(60_000) {
         let few = samples.len() <= 12;
         if few && kept.get("few") == Some(&10) || samples.is_empty() {
@@ -329,7 +357,7 @@ pub fn integrated(seed: u64) -> File {
         if !few && access::classify(&samples) != Class::Integrated {
             continue;
         }
-        let (fit, notes) = noted(|| access::fit_integrated(&samples));
+        let (_, notes) = noted(|| access::fit_integrated(&samples));
         let (kind, most) = match notes.step {
             None if few => ("few", 10),
             None => ("none", 20),
@@ -345,16 +373,31 @@ pub fn integrated(seed: u64) -> File {
             continue;
         }
         *count += 1;
-        file.record_of(family)
-            .word(samples.len() as u32)
-            .input(samples.duration_s);
-        for (rate, moment) in samples.rates.iter().zip(&samples.moments) {
-            file.input(*rate).input(*moment);
-        }
-        file.word(u32::from(fit.is_some()))
-            .word(notes.step.map_or(0, |step| step as u32));
-        model(&mut file, fit);
-        file.word(notes.gain_fits);
+        integrated_record(&mut file, family, &samples);
     }
     file
+}
+
+/// The first `count` samples of a window, and their share of its duration.
+fn first(mut samples: Samples, count: usize) -> Samples {
+    samples.duration_s *= count as f32 / samples.len() as f32;
+    samples.rates.truncate(count);
+    samples.moments.truncate(count);
+    samples.offsets.truncate(count);
+    samples.held.truncate(count);
+    samples
+}
+
+fn integrated_record(file: &mut File, family: &'static str, samples: &Samples) {
+    let (fit, notes) = noted(|| access::fit_integrated(samples));
+    file.record_of(family)
+        .word(samples.len() as u32)
+        .input(samples.duration_s);
+    for (rate, moment) in samples.rates.iter().zip(&samples.moments) {
+        file.input(*rate).input(*moment);
+    }
+    file.word(u32::from(fit.is_some()))
+        .word(notes.step.map_or(0, |step| step as u32));
+    model(file, fit);
+    file.word(notes.gain_fits);
 }

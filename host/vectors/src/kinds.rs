@@ -94,7 +94,7 @@ pub const KINDS: [Kind; 19] = [
         name: "ties",
         layout: "f share, w entries present (place k from the lowest is entry k + 1), 21 times f effect and f \
                  residual, w position or 0",
-        inputs: "M4 to M9, then ties, residuals around the bar to the last bit, infinities, NaNs, effects of \
+        inputs: "M4 to M9, every list of up to two entries over a few effects and residuals, then ties, residuals around the bar to the last bit, infinities, NaNs, effects of \
                  both signs",
         make: fits::ties,
     },
@@ -144,8 +144,8 @@ pub const KINDS: [Kind; 19] = [
         name: "integrated",
         layout: "w stored, f window duration; each f rate, f moment; w 1 for a model, else 0; w step; w d; \
                  f two rate weights, three moment weights, dt_s; w gain fits",
-        inputs: "windows that lists leave: too few samples, no position, whole and half steps, refinements \
-                 that end early",
+        inputs: "windows that lists leave: cut to 12, 13 and 14 samples, too few samples, no position, whole \
+                 and half steps, refinements that end early",
         make: fits::integrated,
     },
 ];
