@@ -114,7 +114,8 @@ fn wash(sweep: SquareSweep, dt: f32) -> Swept
     ensures { λ r. ⌜ r ≡ swept sweep dt ⌝ }
 {
     let square = level(sweep);
-    let washout = sweep.washout + (square - sweep.washout) * float::min(dt / sweep.washout_tc_s, 1.0);
+    let washout = sweep.washout
+        + (square - sweep.washout) * float::min(dt / sweep.washout_tc_s, 1.0);
     Swept {
         offset: square - washout,
         sweep: with_washout(sweep, washout),
