@@ -23,7 +23,7 @@ struct Change {
 }
 
 /// All changes to identify.rs, besides the inner documentation at its head, which is dropped.
-const IDENTIFY_CHANGES: [Change; 9] = [
+const IDENTIFY_CHANGES: [Change; 10] = [
     // The tests are not part of the checkout's source.
     Change {
         from: "#[cfg(test)]\nmod tests;\n",
@@ -57,7 +57,11 @@ const IDENTIFY_CHANGES: [Change; 9] = [
         from: "    let [now, next] = delay.split().map(f64::from);\n",
         to: "    access::count_gain_fit();\n    let [now, next] = delay.split().map(f64::from);\n",
     },
-    // The step of the integrated fit, and the sums of a classification, are noted.
+    // What the grid keeps, the step of the integrated fit, and the sums of a classification are noted.
+    Change {
+        from: "    let effects = best.map(|fit| fit.map(|fit| (fit.gain, fit.residual)));\n",
+        to: "    access::note_grid(&best);\n    let effects = best.map(|fit| fit.map(|fit| (fit.gain, fit.residual)));\n",
+    },
     Change {
         from: "    let delay = Delay::at(step);\n",
         to: "    access::note_step(step);\n    let delay = Delay::at(step);\n",

@@ -401,3 +401,35 @@ fn integrated_record(file: &mut File, family: &'static str, samples: &Samples) {
     model(file, fit);
     file.word(notes.gain_fits);
 }
+
+/// What each step of the grid keeps, over windows that enter the integrated fit and windows of 13 and 14.
+pub fn grid(seed: u64) -> File {
+    let mut file = File::default();
+    let entered = windows(seed + 39, 130)
+        .filter(|(_, samples)| samples.len() > 14)
+        .filter(|(_, samples)| access::classify(samples) == Class::Integrated)
+        .enumerate()
+        .map(|(number, (family, samples))| match number % 6 {
+            0 => (family, first(samples, 13)),
+            1 => (family, first(samples, 14)),
+            _ => (family, samples),
+        });
+    for (family, samples) in entered.take(60) {
+        let dt_s = samples.duration_s / samples.len() as f32;
+        file.record_of(family)
+            .word(samples.len() as u32)
+            .input(dt_s);
+        for (rate, moment) in samples.rates.iter().zip(&samples.moments) {
+            file.input(*rate).input(*moment);
+        }
+        for kept in access::grid(&samples) {
+            file.word(u32::from(kept.is_some()));
+            for value in kept.map_or([0.0; 5], |fit| {
+                [fit.pole, fit.low, fit.high, fit.gain, fit.residual]
+            }) {
+                file.float(value);
+            }
+        }
+    }
+    file
+}

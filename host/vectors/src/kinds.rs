@@ -13,7 +13,7 @@ pub struct Kind {
 }
 
 /// All files but runs.bin.
-pub const KINDS: [Kind; 19] = [
+pub const KINDS: [Kind; 20] = [
     Kind {
         name: "narrow",
         layout: "f64 bits (8 bytes), f narrowed",
@@ -139,6 +139,13 @@ pub const KINDS: [Kind; 19] = [
                  f gain, f residual",
         inputs: "windows that lists leave, with a random pole of the grid and a random step",
         make: fits::gain,
+    },
+    Kind {
+        name: "grid",
+        layout: "w stored, f dt_s; each f rate, f moment; for each of 20 steps: w 1 for a candidate, else 0; \
+                 f pole, low end, high end, gain, residual",
+        inputs: "windows that enter the integrated fit, of which a third are cut to 13 or 14 samples",
+        make: fits::grid,
     },
     Kind {
         name: "integrated",

@@ -1,23 +1,54 @@
 //! Access to the private parts of identify.rs, as plain values, and the notes that build.rs
-//! lets it take: gain fits made, the integrated fit's step, the sums of a classification.
+//! lets it take: gain fits made, what the grid keeps, the integrated fit's step, the sums of a classification.
 
 use std::cell::{Cell, RefCell};
 
 use nalgebra::{SMatrix, SVector};
 
-use super::{DelayFits, Fit, HISTORY, Integrator, Sums, TERMS, WINDOW_CAPACITY, Window};
+use super::{
+    DELAY_STEPS, DelayFits, Fit, HISTORY, Integrator, LagFit, Sums, TERMS, WINDOW_CAPACITY, Window,
+};
 pub use super::{
     IdentifyAbort, IdentifyConfig, IdentifyExtension, IdentifyProbe, IdentifyStatus, RateModel,
 };
 
 thread_local! {
     static GAIN_FITS: Cell<u32> = const { Cell::new(0) };
+    static GRID: Cell<[Option<Candidate>; DELAY_STEPS]> = const { Cell::new([None; DELAY_STEPS]) };
     static STEP: Cell<Option<usize>> = const { Cell::new(None) };
     static SUMS: RefCell<Option<DelayFits>> = const { RefCell::new(None) };
 }
 
 pub(super) fn count_gain_fit() {
     GAIN_FITS.set(GAIN_FITS.get() + 1);
+}
+
+/// A candidate of the grid.
+#[derive(Clone, Copy, Debug, PartialEq)]
+pub struct Candidate {
+    pub pole: f32,
+    pub low: f32,
+    pub high: f32,
+    pub gain: f32,
+    pub residual: f32,
+}
+
+pub(super) fn note_grid(best: &[Option<LagFit>; DELAY_STEPS]) {
+    GRID.set(best.map(|fit| {
+        fit.map(|fit| Candidate {
+            pole: fit.pole,
+            low: fit.bracket[0],
+            high: fit.bracket[1],
+            gain: fit.gain,
+            residual: fit.residual,
+        })
+    }));
+}
+
+/// What each step of the grid keeps of a window of more than 12 samples.
+pub fn grid(samples: &Samples) -> [Option<Candidate>; DELAY_STEPS] {
+    super::fit_integrated(&samples.window());
+    GRID.get()
 }
 
 pub(super) fn note_step(step: usize) {
