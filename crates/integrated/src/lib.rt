@@ -327,6 +327,18 @@ fn fit_long(rates: &[f32; 2048], moments: &[f32; 2048], n: usize, dt_s: f32) -> 
     search(moments, &cs, &ts, w, dt_s)
 }
 
+// What each step keeps of a window of n ticks, more than 11 of them: the grid by itself, for whoever replays one.
+pub fn keep_window(rates: &[f32; 2048], moments: &[f32; 2048], n: usize, dt_s: f32) -> [Kept; 20]
+    requires { ⌜ (firstTick ≤ n) × (n ≤ 2048) ⌝ }
+    ensures { λ r. ⌜ r ≡ tableOf (keptAt «dt_s» (windowFit (now (rates .entry)) (now (moments .entry)) «dt_s» n)) ⌝ }
+{
+    let carry = std::num::f32_to_f64_with_nan(lags::carry(dt_s));
+    let mut cs = [0.0f64; 2048];
+    let mut ts = [0.0f64; 2048];
+    let w = gain::prepare(rates, carry, n - 11, &mut cs, &mut ts);
+    grid(moments, &cs, &ts, w, dt_s)
+}
+
 // The stored count, at most the 2,048 that a window holds.
 fn stored(len: usize) -> usize
     ensures { λ r. ⌜ r ≡ min len 2048 ⌝ }

@@ -1,0 +1,84 @@
+-- `window_vectors::replayed` is safe and ends. The loop's invariant: the place is within the slice, and a record is at least a byte long, so neither count is above the place.
+-- The measure is what is left of the slice.
+use Prim.Native.Nat.{_≤_, _-_}
+use lib.ListN.{length}
+use borrow.Author.Needs.{needs}
+use Rattle.window_vectors.proofs.replayed.Statement.{statement}
+use Rattle.window_vectors.proofs.replayed.Tie as tie
+
+abbrev Inv-loop : tie.InvT-loop
+Inv-loop k s at₀ records₀ agree₀ at records agree = (at ≤ length s) × (records ≤ at) × (agree ≤ records)
+
+abbrev μ-loop : tie.MeasureT-loop
+μ-loop k s at₀ records₀ agree₀ at records agree = length s - at
+
+loop-holds : tie.Need-loop-holds Inv-loop μ-loop
+loop-holds c = search needs
+
+sub-rest : tie.Need-sub-rest Inv-loop μ-loop
+sub-rest c = search needs
+
+part-rest-start : tie.Need-part-rest-start Inv-loop μ-loop
+part-rest-start c = search needs
+
+part-rest-end : tie.Need-part-rest-end Inv-loop μ-loop
+part-rest-end c = search needs
+
+record-size-requires : tie.Need-record-size-requires Inv-loop μ-loop
+record-size-requires c κs = search needs
+
+sub-if1 : tie.Need-sub-if1 Inv-loop μ-loop
+sub-if1 c = search needs
+
+returns : tie.Need-returns Inv-loop μ-loop
+returns c = search needs
+
+add-records : tie.Need-add-records Inv-loop μ-loop
+add-records c = search needs
+
+agrees-requires : tie.Need-agrees-requires Inv-loop μ-loop
+agrees-requires c κs = search needs
+
+flag-requires : tie.Need-flag-requires Inv-loop μ-loop
+flag-requires c κs = search needs
+
+cast-agree : tie.Need-cast-agree Inv-loop μ-loop
+cast-agree c = search needs
+
+add-agree : tie.Need-add-agree Inv-loop μ-loop
+add-agree c = search needs
+
+add-at : tie.Need-add-at Inv-loop μ-loop
+add-at c = search needs
+
+loop-less : tie.Need-loop-less Inv-loop μ-loop
+loop-less c = search needs
+
+loop-again : tie.Need-loop-again Inv-loop μ-loop
+loop-again c = search needs
+
+returns-2 : tie.Need-returns-2 Inv-loop μ-loop
+returns-2 c = search needs
+
+pub replayed-spec : {M : Type 1} → statement M
+replayed-spec =
+    tie.close
+    (tie.spec
+    Inv-loop
+    μ-loop
+    loop-holds
+    sub-rest
+    part-rest-start
+    part-rest-end
+    record-size-requires
+    sub-if1
+    returns
+    add-records
+    agrees-requires
+    flag-requires
+    cast-agree
+    add-agree
+    add-at
+    loop-less
+    loop-again
+    returns-2)
