@@ -1,0 +1,163 @@
+#!/usr/bin/env python3
+"""Makes the three flights beside this file: python3 demo/make_flights.py [FOLDER].
+
+Each flight simulates one axis in closed loop. Within a tick the airframe is integrated in small steps: the moment reaches
+it after a delay and through a motor lag, and its rate integrates gain x moment. The gyro adds noise; a P controller turns
+setpoint minus measured rate into the next moment, limited to 1. The setpoint is the probe's offset, and the offsets are the
+library's own (see `fly`). The logged digits are those that the loop used, so a log is exact.
+
+The same digits come out each time: the noise is a sum of uniform numbers from Python's generator with a fixed seed.
+"""
+from __future__ import annotations
+
+import dataclasses
+import math
+import random
+import sys
+from collections import deque
+from dataclasses import dataclass, field
+from pathlib import Path
+
+ROOT = Path(__file__).resolve().parent.parent
+sys.path.insert(0, str(ROOT / "python"))
+
+import identify
+
+TICK_S = 0.004
+STEPS = 8
+"""Steps of the airframe's simulation in a tick."""
+DIGITS = 5
+LAST_S = 8.4
+"""Length of a log: a little past the extension's end."""
+
+
+@dataclass(frozen=True)
+class Flight:
+    """What is simulated."""
+
+    name: str
+    seed: int
+    noise: float
+    """Standard deviation of the gyro's noise, in rad/s."""
+    p: float
+    """The controller's moment for one rad/s."""
+    gain: float = 40.0
+    """Angular acceleration for a full moment, in rad/s2."""
+    lag_s: float = 0.03
+    """Time constant of the motors."""
+    delay_s: float = 0.009
+    """From the command to the motors."""
+    trim: float = 0.0
+    """A constant moment from outside, as of a load off the centre."""
+    dropouts: tuple[tuple[int, int], ...] = ()
+    """First and last tick of each stretch in which the gyro gives nan."""
+    seconds: float = LAST_S
+
+
+FLIGHTS = (
+    Flight("clean", seed=1, noise=0.0, p=0.25, trim=0.01, seconds=6.2),
+    Flight("noisy", seed=5, noise=0.03, p=0.3, dropouts=((700, 705), (1240, 1240))),
+    Flight("saturated", seed=3, noise=0.03, p=3.0, seconds=6.2),
+)
+"""One airframe: quiet; with gyro noise; with gyro noise and the controller's gain ten times too high."""
+
+
+@dataclass
+class Airframe:
+    """One axis: moment, delay, lag, rate."""
+
+    flight: Flight
+    rate: float = 0.0
+    lagged: float = 0.0
+    pipe: deque[float] = field(default_factory=deque)
+
+    def __post_init__(self) -> None:
+        self.step_s = TICK_S / STEPS
+        self.pole = math.exp(-self.step_s / self.flight.lag_s)
+        self.pipe.extend([0.0] * round(self.flight.delay_s / self.step_s))
+
+    def tick(self, moment: float) -> None:
+        """Flies one tick with this command."""
+        for _ in range(STEPS):
+            self.pipe.append(moment)
+            self.lagged = self.pole * self.lagged + (1 - self.pole) * self.pipe.popleft()
+            self.rate += self.flight.gain * (self.lagged + self.flight.trim) * self.step_s
+
+
+@dataclass
+class Loop:
+    """The airframe with its gyro and its controller, and the calls that it logs."""
+
+    flight: Flight
+    rates: list[float] = field(default_factory=list)
+    moments: list[float] = field(default_factory=list)
+    last_good: float = 0.0
+    moment: float = 0.0
+
+    def __post_init__(self) -> None:
+        self.airframe = Airframe(self.flight)
+        self.noise = random.Random(self.flight.seed)
+
+    def gyro(self) -> float:
+        """This tick's reading; nan in a dropout. Twelve uniform numbers less six have a deviation of 1."""
+        noise = sum(self.noise.random() for _ in range(12)) - 6
+        tick = len(self.rates)
+        if any(first <= tick <= last for first, last in self.flight.dropouts):
+            return math.nan
+        return round(self.airframe.rate + self.flight.noise * noise, DIGITS)
+
+    def tick(self, offset: float) -> None:
+        """Reads the gyro, logs, commands the next moment and flies it; in a dropout by the last reading."""
+        rate = self.gyro()
+        self.rates.append(rate)
+        self.moments.append(self.moment)
+        self.last_good = self.last_good if math.isnan(rate) else rate
+        wanted = self.flight.p * (offset - self.last_good)
+        self.moment = round(max(-1.0, min(1.0, wanted)), DIGITS)
+        self.airframe.tick(self.moment)
+
+
+def fly(flight: Flight, config: identify.Config) -> tuple[list[float], Loop, identify.Report]:
+    """Flies with the offsets that the library gives.
+
+    An offset hangs on the readings only through one decision: at the configuration's duration the probe looks at the window
+    and may take the extension. So the library is asked twice, with zeros for the readings that are still to come: before
+    the start, and again once that window is flown. A third run over the whole flight must give the offsets that were flown.
+    """
+    ticks = round(flight.seconds / TICK_S)
+    dt = [TICK_S] * ticks
+    loop = Loop(flight)
+    zeros = [0.0] * ticks
+    first_leg = identify.run(dataclasses.replace(config, extension=None), dt, zeros, zeros)
+    for offset in first_leg.offsets[: first_leg.ticks]:
+        loop.tick(offset)
+    rest = zeros[first_leg.ticks :]
+    second_leg = identify.run(config, dt, loop.rates + rest, loop.moments + rest)
+    for offset in second_leg.offsets[first_leg.ticks :]:
+        loop.tick(offset)
+    report = identify.run(config, dt, loop.rates, loop.moments)
+    if report.offsets != second_leg.offsets:
+        raise AssertionError(f"{flight.name}: the flown offsets are not the probe's")
+    return dt, loop, report
+
+
+def csv_text(dt: list[float], loop: Loop, report: identify.Report) -> str:
+    """The log, with two columns more than the identifier reads: time and offset."""
+    lines = ["time,dt,rate,moment,offset"]
+    for tick, (step, rate, moment, offset) in enumerate(zip(dt, loop.rates, loop.moments, report.offsets)):
+        lines.append(f"{(tick + 1) * TICK_S:.3f},{step:.3f},{rate:.{DIGITS}f},{moment:.{DIGITS}f},{offset:.4f}")
+    return "\n".join(lines) + "\n"
+
+
+def main() -> None:
+    """Writes the three logs and prints how each ends."""
+    folder = Path(sys.argv[1]) if len(sys.argv) > 1 else Path(__file__).resolve().parent
+    for flight in FLIGHTS:
+        dt, loop, report = fly(flight, identify.Config())
+        (folder / f"{flight.name}.csv").write_text(csv_text(dt, loop, report))
+        delay = f", {report.model.delay_ticks:g} ticks" if report.model else ""
+        print(f"{flight.name}.csv: {report.ending.name.lower()}{delay}")
+
+
+if __name__ == "__main__":
+    main()

@@ -1,0 +1,50 @@
+"""Runs the proved library over a list of calls."""
+from __future__ import annotations
+
+import ctypes
+import sys
+from collections.abc import Sequence
+
+from . import library
+from .records import Config, ConfigRefused, Report
+from .wire import CALL_BYTES, OFFSET_BYTES, REPORT_BYTES, pack_calls, pack_config, unpack_report
+
+
+def run(config: Config, dt: Sequence[float], rate: Sequence[float], moment: Sequence[float]) -> Report:
+    """Runs a probe of this configuration over a flight and reports how it ended.
+
+    One call a tick, in order: `dt` the seconds since the last tick, `rate` the axis's rate at this tick in rad/s,
+    `moment` the normalised moment commanded on the last tick. The first call is the first tick of the excitation. A
+    reading that is NaN or infinite is allowed and counts as held.
+
+    Raises ConfigRefused where the configuration breaks one of the rules 1 to 5, ValueError where the sequences differ in
+    length, and LibraryError where the library cannot be built or loaded. A call that breaks one of the rules 6 to 8 is
+    listed in the report's `refusals`, and the run goes on.
+    """
+    return unpack_report(run_bytes(pack_config(config), pack_calls(dt, rate, moment)))
+
+
+def run_bytes(config: bytes, calls: bytes) -> bytes:
+    """Runs `identify_byte_run` as include/identify.h describes it and returns the output: report, then offsets.
+
+    Raises ConfigRefused with the number that the library answered where it is not 0.
+    """
+    function = library.load().identify_byte_run
+    check_float_mode()
+    output = ctypes.create_string_buffer(REPORT_BYTES + OFFSET_BYTES * (len(calls) // CALL_BYTES))
+    answer = function(config, len(config), calls, len(calls), output, len(output))
+    if answer != 0:
+        raise ConfigRefused(answer)
+    return output.raw
+
+
+def check_float_mode() -> None:
+    """Refuses to run in a floating-point mode in which the library's promises do not hold.
+
+    Some numeric extensions switch the processor to flush subnormals when they are loaded.
+    """
+    one, least = 1.0, sys.float_info.min
+    half_unit = sys.float_info.epsilon / 2
+    to_nearest = one + half_unit == one and -one - half_unit == -one and one + 3 * half_unit > one + 2 * half_unit
+    if not to_nearest or least / 2 == 0.0:
+        raise library.LibraryError("this process does not round to nearest with subnormals kept, which the library needs")

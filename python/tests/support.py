@@ -1,0 +1,42 @@
+"""What the tests share: the package's path, a made flight, and the command."""
+from __future__ import annotations
+
+import random
+import subprocess
+import sys
+from pathlib import Path
+
+ROOT = Path(__file__).resolve().parents[2]
+DEMO = ROOT / "demo"
+sys.path.insert(0, str(ROOT / "python"))
+
+import identify
+
+M1_CONFIG = identify.Config(1.0, 1.0, 0.5, None)
+RATE_WEIGHTS = (1.85, -0.85)
+MOMENT_WEIGHTS = (0.02, 0.01, 0.015)
+
+
+def made_flight(delay: int, ticks: int = 1600, dt: float = 0.004) -> tuple[list[float], list[float], list[float]]:
+    """An axis that follows the model's equation exactly, under a moment drawn anew at each tick.
+
+    All three moment weights differ from zero, so no other delay explains the flight.
+    """
+    draw = random.Random(7)
+    commands = [draw.uniform(-0.5, 0.5) for _ in range(ticks)]
+    rates: list[float] = []
+    for k in range(ticks):
+        terms = [weight * at(rates, k - 1 - back) for back, weight in enumerate(RATE_WEIGHTS)]
+        terms += [weight * at(commands, k - delay - back) for back, weight in enumerate(MOMENT_WEIGHTS)]
+        rates.append(sum(terms))
+    return [dt] * ticks, rates, [0.0] + commands[:-1]
+
+
+def at(values: list[float], tick: int) -> float:
+    """The value at a tick; 0 before the start."""
+    return values[tick] if tick >= 0 else 0.0
+
+
+def command(*words: str, given: str = "") -> subprocess.CompletedProcess[str]:
+    """Runs ./identify."""
+    return subprocess.run([sys.executable, str(ROOT / "identify"), *words], input=given, capture_output=True, text=True)

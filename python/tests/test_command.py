@@ -1,0 +1,199 @@
+"""The command ./identify: what it prints, its exit status, its messages."""
+import contextlib
+import importlib.util
+import io
+import json
+import tempfile
+import unittest
+from pathlib import Path
+from unittest import mock
+
+from support import DEMO, command, identify
+
+from identify import cli
+
+HEADER = "dt,rate,moment\n"
+M1_OPTIONS = ("--amplitude", "1", "--duration", "1", "--washout", "0.5", "--no-extension")
+HAS_MATPLOTLIB = importlib.util.find_spec("matplotlib") is not None
+
+
+class Good(unittest.TestCase):
+    """Reports."""
+
+    def test_noisy_flight_in_words(self):
+        result = command(str(DEMO / "noisy.csv"))
+        self.assertEqual((result.returncode, result.stderr), (0, ""))
+        for words in (
+            "done, by the integrated fit (a noisy window, extended from 6 s to 8 s)", "3.5 ticks, 14.00 ms", "rate weights",
+            "moment weights", "dt ", "ticks 2000, stored 2000, held 7, warm 33, rows 1960, gain fits 2604",
+            "2100 in the log, none turned back, 100 after the end, unused",
+        ):
+            self.assertIn(words, result.stdout)
+
+    def test_whole_delay_in_words(self):
+        result = command(str(DEMO / "clean.csv"))
+        self.assertIn("done, by the fit on the recorded rates (a quiet window)", result.stdout)
+        self.assertIn("3 ticks, 12.00 ms", result.stdout)
+
+    def test_saturated_flight_says_what_to_do(self):
+        result = command(str(DEMO / "saturated.csv"))
+        self.assertEqual(result.returncode, 0)
+        self.assertIn("gave up: saturated", result.stdout)
+        self.assertIn("774 of 1500 moments (52%)", result.stdout)
+        self.assertIn("Lower the rate loop's gains or the amplitude", result.stdout)
+
+    def test_too_few_rows(self):
+        result = command("-", *M1_OPTIONS, given=HEADER + "0.25,0,0\n" * 4)
+        self.assertIn("gave up: unexcited", result.stdout)
+        self.assertIn("only 0 rows to fit", result.stdout)
+
+    def test_moment_that_does_not_move(self):
+        result = command("-", *M1_OPTIONS, given=HEADER + "0.01,0,0\n" * 101)
+        self.assertIn("gave up: unexcited", result.stdout)
+        self.assertIn("did not move the moment enough", " ".join(result.stdout.split()))
+
+    def test_log_that_ends_early(self):
+        result = command("-", given=HEADER + "0.25,0,0\n" * 4)
+        self.assertEqual(result.returncode, 0)
+        self.assertIn("still running", result.stdout)
+        self.assertIn("the log ends after 1 s, before the duration of 6 s", result.stdout)
+
+    def test_log_that_ends_in_the_extension(self):
+        lines = (DEMO / "noisy.csv").read_text().splitlines(keepends=True)
+        result = command("-", given="".join(lines[:1700]))
+        self.assertIn("the window was noisy at 6 s and goes on to 8 s", " ".join(result.stdout.split()))
+
+    def test_no_extension(self):
+        result = command(str(DEMO / "noisy.csv"), "--no-extension")
+        self.assertIn("done, by the integrated fit (a noisy window)\n", result.stdout)
+        self.assertIn("ticks 1500", result.stdout)
+
+    def test_columns_in_any_order_and_others(self):
+        given = "Note, moment ,t,rate,dt\n" + "x,nan,1,inf,0.25\n\n" + ",0,y,0,0.25\n" * 3
+        result = command("-", *M1_OPTIONS, given=given)
+        self.assertEqual((result.returncode, result.stderr), (0, ""))
+        self.assertIn("ticks 4, stored 4, held 1", result.stdout)
+
+    def test_refused_calls_are_counted_and_named(self):
+        given = HEADER + "0.25,0,0\n0,0,0\n" + "nan,0,0\n" * 6 + "5000,0,0\n" + "0.25,0,0\n" * 3
+        result = command("-", *M1_OPTIONS, given=given)
+        self.assertEqual(result.returncode, 0)
+        self.assertIn("12 in the log, 8 turned back", result.stdout)
+        self.assertIn("dt not positive and finite: 7 turned back (lines 3, 4, 5, 6, 7 and 2 more)", result.stdout)
+        self.assertIn("elapsed time + dt above 4,096 s: 1 turned back (line 10)", result.stdout)
+
+
+class Json(unittest.TestCase):
+    """The report for programs."""
+
+    def test_noisy_flight(self):
+        found = json.loads(command(str(DEMO / "noisy.csv"), "--json").stdout)
+        self.assertEqual((found["ending"], found["reason"], found["extended"]), ("done", None, True))
+        self.assertEqual((found["model"]["delay_ticks"], found["model"]["delay_half_ticks"]), (3.5, 7))
+        self.assertEqual(found["model"]["fit"], "integrated")
+        self.assertEqual(found["counts"]["gain_fits"], 2604)
+        self.assertEqual(found["config"]["extension"], {"amplitude": 1.0, "duration_s": 8.0})
+        self.assertEqual(len(bytes.fromhex(found["report_hex"])), 36)
+
+    def test_refused_calls(self):
+        found = json.loads(command("-", *M1_OPTIONS, "--json", given=HEADER + "0.25,0,0\n0,0,0\n" + "0.25,0,0\n" * 3).stdout)
+        self.assertEqual(found["calls"], {"in_log": 5, "turned_back": 1, "after_end": 0})
+        self.assertEqual(found["turned_back"], [{"line": 3, "call": 1, "rule": 6, "why": identify.RULES[6]}])
+        self.assertEqual(found["ending"], "unexcited")
+        self.assertIsNone(found["model"])
+
+    def test_not_finite_is_null(self):
+        from identify.words import finite
+
+        self.assertEqual(finite({"a": [float("nan"), 1.0, float("inf")], "b": "nan"}), {"a": [None, 1.0, None], "b": "nan"})
+
+
+class Bad(unittest.TestCase):
+    """Bad input: one line that names file, line and rule; status 2."""
+
+    def complains(self, *words, given="", expected=()):
+        result = command(*words, given=given)
+        self.assertEqual((result.returncode, result.stdout), (2, ""))
+        self.assertEqual(result.stderr.count("\n"), 1, result.stderr)
+        self.assertTrue(result.stderr.startswith("identify: "))
+        for part in expected:
+            self.assertIn(part, result.stderr)
+
+    def test_no_such_file(self):
+        self.complains("no-such-flight.csv", expected=("no-such-flight.csv", "No such file"))
+
+    def test_folder(self):
+        self.complains(str(DEMO), expected=("directory",))
+
+    def test_empty(self):
+        self.complains("-", expected=("standard input:1", "no header line"))
+
+    def test_column_missing(self):
+        self.complains("-", given="dt,rate\n1,2\n", expected=("standard input:1", "no column moment"))
+
+    def test_column_twice(self):
+        self.complains("-", given="dt,rate,moment,rate\n", expected=("standard input:1", "2 times the column rate"))
+
+    def test_no_number(self):
+        for cell in ("fast", "", "1_0", "0x1p3", "1,5"):
+            with self.subTest(cell=cell):
+                given = HEADER + "1,2,3\n" + f'1,"{cell}",3\n'
+                expected = ("standard input:3", f"rate is '{cell}'", "must be a number, nan or inf")
+                self.complains("-", given=given, expected=expected)
+
+    def test_short_line(self):
+        self.complains("-", given=HEADER + "1,2\n", expected=("standard input:2", "ends before column moment"))
+
+    def test_not_text(self):
+        with tempfile.TemporaryDirectory() as folder:
+            path = Path(folder) / "flight.csv"
+            path.write_bytes(b"dt,rate,moment\n1,2,3\n\xff\xfe\n")
+            self.complains(str(path), expected=("flight.csv:3", "not UTF-8"))
+
+    def test_refused_configurations(self):
+        flight = str(DEMO / "clean.csv")
+        for rule, options in {
+            1: ("--amplitude", "0"),
+            2: ("--duration", "-1"),
+            3: ("--washout", "nan"),
+            4: ("--extension-amplitude", "inf"),
+            5: ("--duration", "9"),
+        }.items():
+            with self.subTest(rule=rule):
+                self.complains(flight, *options, expected=(f"refused by rule {rule}: {identify.RULES[rule]}", options[0]))
+
+    def test_option_without_number(self):
+        self.complains("x.csv", "--duration", "long", expected=("--duration", "long"))
+
+    def test_extension_options_that_exclude_each_other(self):
+        self.complains("x.csv", "--no-extension", "--extension-duration", "9", expected=("--no-extension excludes",))
+
+    def test_picture_of_another_kind(self):
+        self.complains(str(DEMO / "clean.csv"), "--plot", "x.pdf", expected=("x.pdf", ".png or .svg"))
+
+    def test_without_matplotlib(self):
+        errors = io.StringIO()
+        with mock.patch("importlib.util.find_spec", return_value=None), contextlib.redirect_stderr(errors):
+            status = cli.main([str(DEMO / "clean.csv"), "--plot", "x.png"])
+        self.assertEqual(status, 2)
+        self.assertIn("python3-matplotlib", errors.getvalue())
+        self.assertEqual(errors.getvalue().count("\n"), 1)
+
+
+@unittest.skipUnless(HAS_MATPLOTLIB, "matplotlib is not installed (Debian package python3-matplotlib)")
+class Pictures(unittest.TestCase):
+    """Pictures, where matplotlib is installed."""
+
+    def test_each_kind_and_ending(self):
+        starts = {".png": b"\x89PNG", ".svg": b"<?xml"}
+        with tempfile.TemporaryDirectory() as folder:
+            for name in ("clean", "noisy", "saturated"):
+                for suffix, start in starts.items():
+                    path = Path(folder) / (name + suffix)
+                    result = command(str(DEMO / f"{name}.csv"), "--plot", str(path))
+                    self.assertEqual((result.returncode, result.stderr), (0, ""))
+                    self.assertTrue(path.read_bytes().startswith(start))
+
+
+if __name__ == "__main__":
+    unittest.main()

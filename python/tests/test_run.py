@@ -1,0 +1,230 @@
+"""The package over the real library: bytes, refusals, flights."""
+import ctypes
+import math
+import struct
+import unittest
+
+from support import DEMO, M1_CONFIG, MOMENT_WEIGHTS, RATE_WEIGHTS, identify, made_flight
+
+from identify import library, wire
+from identify.records import Config, ConfigRefused, Ending, Extension
+
+M1_OUTPUT = bytes.fromhex("800000020020000020000000" + "00" * 24 + "3F0000003E8000003E000000BEE00000")
+
+
+def zeros(dt):
+    """A run of M1's configuration over calls with these dt and zero readings."""
+    return identify.run(M1_CONFIG, dt, [0.0] * len(dt), [0.0] * len(dt))
+
+
+class Bytes(unittest.TestCase):
+    """The byte run as 01 marks it."""
+
+    def test_m1(self):
+        calls = wire.pack_calls([0.25] * 4, [0.0] * 4, [0.0] * 4)
+        self.assertEqual(identify.run_bytes(wire.pack_config(M1_CONFIG), calls), M1_OUTPUT)
+
+    def test_m1_with_names(self):
+        report = zeros([0.25] * 4)
+        self.assertIs(report.ending, Ending.UNEXCITED)
+        self.assertEqual((report.ticks, report.stored, report.held, report.warm, report.rows), (4, 4, 0, 4, 0))
+        self.assertEqual(report.offsets, (0.5, 0.25, 0.125, -0.4375))
+        self.assertIsNone(report.model)
+
+    def test_config_bytes(self):
+        packed = wire.pack_config(Config(0.5, 6.0, 0.25, Extension(1.0, 8.0)))
+        self.assertEqual(packed.hex(), "3f000000" "40c00000" "3e800000" "00000001" "3f800000" "41000000")
+
+    def test_beyond_single_precision_is_infinite(self):
+        self.assertEqual(wire.pack_floats([1e39, -1e39]).hex(), "7f800000ff800000")
+
+    def test_report_fields(self):
+        widths = [width for _, width in wire.REPORT_BITS]
+        self.assertEqual(sum(widths), 96)
+        head = 0
+        for value, width in zip((1, 3, 0, 2000, 2001, 7, 33, 1960, 2604, 0), widths):
+            head = head << width | value
+        floats = struct.pack(">6f", 1.875, -0.875, 0.5, 0.5, 0.0, 0.25)
+        report = wire.unpack_report(head.to_bytes(12, "big") + floats)
+        counts = (report.ticks, report.stored, report.held, report.warm, report.rows, report.gain_fits)
+        self.assertEqual(counts, (2000, 2001, 7, 33, 1960, 2604))
+        self.assertEqual(report.model.delay_ticks, 3.5)
+        self.assertEqual(report.model.delay_s, 0.875)
+        self.assertEqual(report.model.rate_weights, (1.875, -0.875))
+
+
+class Refusals(unittest.TestCase):
+    """Each rule of 01's table."""
+
+    def refused(self, rule, config):
+        with self.assertRaises(ConfigRefused) as caught:
+            identify.run(config, [0.25], [0.0], [0.0])
+        self.assertEqual(caught.exception.rule, rule)
+
+    def test_rule_1(self):
+        for amplitude in (0.0, math.nan, math.inf, 1e39):
+            self.refused(1, Config(amplitude=amplitude))
+
+    def test_rule_2(self):
+        for duration_s in (0.0, -1.0, math.nan, math.inf, 3601.0):
+            self.refused(2, Config(duration_s=duration_s))
+
+    def test_rule_3(self):
+        for washout_tc_s in (0.0, -0.2, math.nan, math.inf):
+            self.refused(3, Config(washout_tc_s=washout_tc_s))
+
+    def test_rule_4(self):
+        for amplitude in (0.0, math.nan, math.inf):
+            self.refused(4, Config(extension=Extension(amplitude, 8.0)))
+
+    def test_rule_5(self):
+        for duration_s in (5.0, math.nan, math.inf, 3601.0):
+            self.refused(5, Config(extension=Extension(1.0, duration_s)))
+
+    def test_rules_4_and_5_need_an_extension(self):
+        self.assertIs(identify.run(Config(duration_s=10.0, extension=None), [0.25], [0.0], [0.0]).ending, Ending.RUNNING)
+
+    def test_rule_6(self):
+        report = zeros([0.25, 0.0, -1.0, math.nan, math.inf, 0.25])
+        self.assertEqual([(refusal.call, refusal.rule) for refusal in report.refusals], [(1, 6), (2, 6), (3, 6), (4, 6)])
+        self.assertEqual(report.ticks, 2)
+        self.assertTrue(math.isnan(report.offsets[1]))
+
+    def test_rule_6_after_the_end(self):
+        report = zeros([0.25] * 5 + [0.0])
+        self.assertEqual([(refusal.call, refusal.rule) for refusal in report.refusals], [(5, 6)])
+        self.assertEqual(report.offsets[4], 0.0)
+
+    def test_rule_7(self):
+        report = zeros([5000.0, 0.25])
+        self.assertEqual([(refusal.call, refusal.rule) for refusal in report.refusals], [(0, 7)])
+        self.assertEqual((report.ticks, report.elapsed_s), (1, 0.25))
+
+    def test_rule_8(self):
+        ticks = 16_777_216
+        call = wire.pack_calls([1e-30], [0.0], [0.0])
+        output = identify.run_bytes(wire.pack_config(M1_CONFIG), call * (ticks + 1))
+        self.assertEqual(wire.split_bits(output[:12])["ticks"], ticks)
+        self.assertEqual(output[-8:-4].hex(), "3f800000")
+        self.assertEqual(output[-4:].hex(), "7fc00008")
+
+    def test_rule_9(self):
+        for config, calls in ((bytes(23), b""), (wire.pack_config(M1_CONFIG), bytes(13))):
+            with self.assertRaises(ConfigRefused) as caught:
+                identify.run_bytes(config, calls)
+            self.assertEqual(caught.exception.rule, 9)
+
+    def test_rule_9_for_a_short_output(self):
+        output = ctypes.create_string_buffer(b"\xa5" * 39, 39)
+        config, calls = wire.pack_config(M1_CONFIG), bytes(12)
+        answer = library.load().identify_byte_run(config, len(config), calls, len(calls), output, len(output))
+        self.assertEqual((answer, output.raw), (9, b"\xa5" * 39))
+
+    def test_lengths_differ(self):
+        with self.assertRaises(ValueError):
+            identify.run(M1_CONFIG, [0.25, 0.25], [0.0], [0.0])
+
+
+class Flights(unittest.TestCase):
+    """Models of made flights."""
+
+    def test_clean_delays_are_recovered(self):
+        for delay in range(1, 11):
+            with self.subTest(delay=delay):
+                model = identify.run(Config(), *made_flight(delay)).model
+                self.assertFalse(model.integrated)
+                self.assertEqual(model.delay_ticks, delay)
+                for found, true in zip(model.rate_weights + model.moment_weights, RATE_WEIGHTS + MOMENT_WEIGHTS):
+                    self.assertAlmostEqual(found, true, delta=1e-4)
+                self.assertAlmostEqual(model.dt_s, 0.004, delta=1e-6)
+
+    def test_log_that_ends_early(self):
+        report = identify.run(Config(), *made_flight(3, ticks=100))
+        self.assertIs(report.ending, Ending.RUNNING)
+        self.assertAlmostEqual(report.elapsed_s, 0.4, delta=1e-5)
+        self.assertEqual((report.warm, report.rows), (0, 0))
+
+    def test_demo_flights_end_as_their_names_say(self):
+        expected = {
+            "clean": (Ending.DONE, 3.0, False),
+            "noisy": (Ending.DONE, 3.5, True),
+            "saturated": (Ending.SATURATED, None, None),
+        }
+        for name, (ending, delay, integrated) in expected.items():
+            with self.subTest(name=name):
+                log = identify.read_log(DEMO / f"{name}.csv")
+                report = identify.run(Config(), log.dt, log.rate, log.moment)
+                self.assertIs(report.ending, ending)
+                self.assertEqual(identify.extension_taken(Config(), log.dt, report), name == "noisy")
+                if report.model:
+                    self.assertEqual((report.model.delay_ticks, report.model.integrated), (delay, integrated))
+
+
+class Held(unittest.TestCase):
+    """Readings that are not finite."""
+
+    def test_m12(self):
+        rates = [0.0] * 12 + [math.nan] + [0.0] * 13
+        report = identify.run(Config(1.0, 26.0, 0.5, None), [1.0] * 26, rates, [0.0] * 26)
+        self.assertEqual((report.ticks, report.held, report.warm, report.rows), (26, 1, 22, 3))
+
+    def test_each_kind_is_held(self):
+        for bad in (math.nan, math.inf, -math.inf, 1e39):
+            for rate, moment in ((bad, 0.0), (0.0, bad), (bad, bad)):
+                report = identify.run(Config(), [0.004] * 3, [1.0, rate, 1.0], [0.5, moment, 0.5])
+                self.assertEqual((report.stored, report.held), (3, 1))
+
+    def test_the_window_worked_out_again_is_the_probe_s(self):
+        log = identify.read_log(DEMO / "noisy.csv")
+        report = identify.run(Config(), log.dt, log.rate, log.moment)
+        samples = identify.stored_window(log.dt, log.rate, log.moment, report)
+        self.assertEqual(len(samples), report.stored)
+        self.assertEqual(sum(sample.held for sample in samples), report.held)
+        self.assertEqual(report.held, 7)
+        self.assertEqual(samples[700].rate, samples[699].rate)
+
+    def test_a_full_window_stays_full(self):
+        report = identify.run(Config(0.5, 12.0, 0.2, None), *made_flight(3, ticks=2500))
+        self.assertEqual((report.ticks, report.stored), (2500, 2048))
+        dt, rate, moment = made_flight(3, ticks=2500)
+        self.assertEqual(len(identify.stored_window(dt, rate, moment, report)), 2048)
+
+
+class Halves(unittest.TestCase):
+    """The half tick, read off the weights."""
+
+    def test_shares(self):
+        self.assertTrue(wire.has_half((0.01, 0.01, 0.0), 2604))
+        self.assertTrue(wire.has_half((-0.01, -0.01, 0.0), 2604))
+        self.assertFalse(wire.has_half((0.01, 0.0, 0.0), 2604))
+        self.assertFalse(wire.has_half((math.inf, math.nan, 0.0), 2604))
+
+    def test_recorded_fit_has_no_half(self):
+        self.assertFalse(wire.has_half((0.01, 0.01, 0.0), 0))
+
+    def test_zero_gain_is_taken_as_whole(self):
+        self.assertFalse(wire.has_half((0.0, 0.0, 0.0), 2604))
+
+
+class Prediction(unittest.TestCase):
+    """The model one step ahead."""
+
+    def test_clean_flight_is_predicted(self):
+        dt, rate, moment = made_flight(4)
+        report = identify.run(Config(), dt, rate, moment)
+        samples = identify.stored_window(dt, rate, moment, report)
+        predicted = identify.one_step(report.model, samples)
+        self.assertEqual(len(predicted), len(samples))
+        worst = max(abs(guess - sample.rate) for guess, sample in zip(predicted, samples) if not math.isnan(guess))
+        self.assertLess(worst, 0.002)
+
+    def test_short_window(self):
+        model = identify.Model(7, (1.0, 0.0), (0.5, 0.5, 0.0), 0.004, True)
+        samples = [identify.Sample(0.004 * k, float(k), 1.0, 0.0, False) for k in range(6)]
+        self.assertEqual([math.isnan(value) for value in identify.one_step(model, samples)], [True] * 4 + [False] * 2)
+        self.assertEqual(identify.one_step(model, samples)[4:], [4.0, 5.0])
+        self.assertEqual(len(identify.one_step(model, samples[:1])), 1)
+
+
+if __name__ == "__main__":
+    unittest.main()
