@@ -1,14 +1,16 @@
-// Replays vector files for the poles, the gain fits and the integrated fit, and prints how many records
+// Replays vector files for the poles, the gain fits, the grid and the integrated fit, and prints how many records
 // each file has and how many of them agree. Words are big-endian; an expected NaN is 7FC00000.
 use delay::RateModel;
 use gain::GainFit;
 use integrated::Fitted;
+use integrated::Kept;
 use libc::STDOUT_FILENO;
 ghost use Prim.Native.Nat.{_≤_, _<_};
 
 enum Kind {
     Poles,
     Gain,
+    Grid,
     Integrated,
 }
 
@@ -108,6 +110,42 @@ fn gain_agrees(s: &[u8]) -> bool {
     }
 }
 
+// w 1 for a candidate, else 0; f pole, low end, high end, gain, residual.
+fn is_kept(kept: Kept, s: &[u8], at: usize) -> bool
+    requires { ⌜ at ≤ 20000 ⌝ }
+{
+    match kept {
+        Kept::Empty => word(s, at) == 0,
+        Kept::Best(b) => (word(s, at) == 1)
+            & is_at(b.pole, s, at + 4)
+            & is_at(b.low, s, at + 8)
+            & is_at(b.high, s, at + 12)
+            & is_at(b.gain, s, at + 16)
+            & is_at(b.residual, s, at + 20),
+    }
+}
+
+// w stored, f dt_s; each f rate, f moment; what each of 20 steps keeps.
+fn grid_agrees(s: &[u8]) -> bool {
+    let n = count(s);
+    if n < 12 {
+        return false;
+    }
+    let mut rates = [0.0f32; 2048];
+    let mut moments = [0.0f32; 2048];
+    load(s, 8, n, &mut rates);
+    load(s, 12, n, &mut moments);
+    let kept = integrated::keep_window(&rates, &moments, n, float_at(s, 4));
+    let end = 8 + n * 8;
+    for step in 0..20usize {
+        let k = kept[step];
+        if !is_kept(k, s, end + step * 24) {
+            return false;
+        }
+    }
+    true
+}
+
 // w 1 for a model; w step; w d; f two rate weights, three moment weights, dt_s.
 fn is_model(m: RateModel, s: &[u8], at: usize) -> bool
     requires { ⌜ at ≤ 20000 ⌝ }
@@ -149,6 +187,7 @@ fn record_size(k: Kind, s: &[u8]) -> usize
     match k {
         Kind::Poles => 528,
         Kind::Gain => 28 + count(s) * 8,
+        Kind::Grid => 488 + count(s) * 8,
         Kind::Integrated => 48 + count(s) * 8,
     }
 }
@@ -157,6 +196,7 @@ fn agrees(k: Kind, s: &[u8]) -> bool {
     match k {
         Kind::Poles => poles_agree(s),
         Kind::Gain => gain_agrees(s),
+        Kind::Grid => grid_agrees(s),
         Kind::Integrated => integrated_agrees(s),
     }
 }
@@ -206,5 +246,6 @@ fn replay(k: Kind, name: &[u8], path: &[u8]) {
 fn main() {
     replay(Kind::Poles, b"poles", b"poles.bin");
     replay(Kind::Gain, b"gain fits", b"gain.bin");
+    replay(Kind::Grid, b"grids", b"grid.bin");
     replay(Kind::Integrated, b"integrated fits", b"integrated.bin");
 }
