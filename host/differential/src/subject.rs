@@ -24,38 +24,8 @@ pub fn named(name: Option<&str>) -> Result<Subject, String> {
     }
 }
 
-#[cfg(not(identify_lib))]
 fn library() -> Option<Subject> {
-    None
-}
-
-#[cfg(identify_lib)]
-fn library() -> Option<Subject> {
-    unsafe extern "C" {
-        fn identify_byte_run(
-            config: *const u8,
-            config_len: usize,
-            calls: *const u8,
-            calls_len: usize,
-            output: *mut u8,
-            output_len: usize,
-        ) -> u32;
-    }
-    fn byte_run(config: &[u8], calls: &[u8], output: &mut [u8]) -> u32 {
-        // SAFETY: each pointer and length is that of a slice, and the output's is lent to this
-        // call alone.
-        unsafe {
-            identify_byte_run(
-                config.as_ptr(),
-                config.len(),
-                calls.as_ptr(),
-                calls.len(),
-                output.as_mut_ptr(),
-                output.len(),
-            )
-        }
-    }
-    Some(Subject {
+    library::BYTE_RUN.map(|byte_run| Subject {
         name: "the static library",
         byte_run,
     })

@@ -14,7 +14,7 @@ fn main() {
     let root = manifest
         .ancestors()
         .nth(2)
-        .expect("host/differential is in the project");
+        .expect("host/library is in the project");
     let library = root.join(given);
     if !library.is_file() {
         println!(

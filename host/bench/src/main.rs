@@ -1,0 +1,130 @@
+//! Times the reference and the proved library side by side, in one run: interleaved repetitions,
+//! medians, and the ratio of the reference's time to the library's.
+
+use std::hint::black_box;
+use std::process::ExitCode;
+use std::time::{Duration, Instant};
+
+use library::ByteRun;
+use reference::byte_run::{byte_run, written_len};
+
+const DT_S: f32 = 0.004;
+
+/// A small generator of noise in -1 to 1.
+struct Noise(u32);
+
+impl Noise {
+    fn next(&mut self) -> f32 {
+        self.0 = self.0.wrapping_mul(1_664_525).wrapping_add(1_013_904_223);
+        (self.0 >> 16) as f32 / 32_768.0 - 1.0
+    }
+}
+
+/// A byte run's input.
+struct Run {
+    config: Vec<u8>,
+    calls: Vec<u8>,
+}
+
+impl Run {
+    /// `ticks` calls to a probe of this duration. The rate follows the moment of four ticks before,
+    /// with noise on what is read.
+    fn new(ticks: usize, duration_s: f32, noise: f32) -> Run {
+        let config = [1.0, duration_s, 0.2, 0.0, 0.0, 0.0];
+        let mut random = Noise(1);
+        let mut moments = vec![0.0f32; ticks + 4];
+        let (mut rate, mut change) = (0.0f32, 0.0f32);
+        let mut calls = Vec::with_capacity(12 * ticks);
+        for tick in 0..ticks {
+            moments[tick + 4] = if tick / 60 % 2 == 0 { 0.4 } else { -0.4 } + 0.1 * random.next();
+            change = 0.8 * change + 0.2 * 0.05 * moments[tick];
+            rate = 0.99 * rate + change;
+            for value in [DT_S, rate + noise * random.next(), moments[tick + 4]] {
+                calls.extend(value.to_bits().to_be_bytes());
+            }
+        }
+        Run {
+            config: config
+                .iter()
+                .flat_map(|value: &f32| value.to_bits().to_be_bytes())
+                .collect(),
+            calls,
+        }
+    }
+
+    fn calls(&self) -> usize {
+        self.calls.len() / 12
+    }
+
+    fn time(&self, run: ByteRun, output: &mut [u8]) -> Duration {
+        let start = Instant::now();
+        black_box(run(black_box(&self.config), black_box(&self.calls), output));
+        start.elapsed()
+    }
+}
+
+fn median(mut times: Vec<Duration>) -> f64 {
+    times.sort();
+    times[times.len() / 2].as_secs_f64()
+}
+
+/// Both times a run, in s, from interleaved repetitions; the outputs are compared.
+fn times(run: &Run, library: ByteRun, repetitions: usize) -> (f64, f64) {
+    let mut outputs = [(); 2].map(|()| vec![0; written_len(run.calls())]);
+    let [ours, theirs] = &mut outputs;
+    let (mut library_times, mut reference_times) = (Vec::new(), Vec::new());
+    for _ in 0..repetitions {
+        library_times.push(run.time(library, ours));
+        reference_times.push(run.time(byte_run, theirs));
+    }
+    assert_eq!(ours, theirs, "the outputs differ");
+    (median(reference_times), median(library_times))
+}
+
+fn line(what: &str, (reference, library): (f64, f64), per: f64, unit: &str) {
+    println!(
+        "{what:<44} reference {:>9.2} {unit}, library {:>9.2} {unit}, ratio {:.2}",
+        reference * per,
+        library * per,
+        reference / library,
+    );
+}
+
+/// A run of `ticks` calls that ends with its last one.
+fn ending(ticks: usize, noise: f32) -> Run {
+    Run::new(ticks, (ticks as f32 - 0.5) * DT_S, noise)
+}
+
+fn main() -> ExitCode {
+    let Some(library) = library::BYTE_RUN else {
+        eprintln!("bench: set IDENTIFY_LIB to the static library and build again (host/README.md)");
+        return ExitCode::from(2);
+    };
+    for ticks in [256, 512, 1_024, 2_048] {
+        let noisy = times(&ending(ticks, 0.1), library, 15);
+        line(
+            &format!("noisy run of {ticks} ticks, integrated fit"),
+            noisy,
+            1e3,
+            "ms",
+        );
+    }
+    for ticks in [256, 512, 1_024, 2_048] {
+        let quiet = times(&ending(ticks, 0.0), library, 101);
+        line(
+            &format!("quiet run of {ticks} ticks, recorded fit"),
+            quiet,
+            1e6,
+            "us",
+        );
+    }
+    let running = Run::new(200_000, 3_600.0, 0.1);
+    let step = times(&running, library, 15);
+    line(
+        "a step while running, of 200,000",
+        step,
+        1e9 / running.calls() as f64,
+        "ns",
+    );
+    ExitCode::SUCCESS
+}

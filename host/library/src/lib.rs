@@ -1,0 +1,37 @@
+//! The proved static library, where the environment variable IDENTIFY_LIB named it during the
+//! build.
+
+/// A byte run: configuration, calls, output; it answers 0 or a rule's number.
+pub type ByteRun = fn(&[u8], &[u8], &mut [u8]) -> u32;
+
+#[cfg(not(identify_lib))]
+pub const BYTE_RUN: Option<ByteRun> = None;
+
+#[cfg(identify_lib)]
+pub const BYTE_RUN: Option<ByteRun> = Some(byte_run);
+
+#[cfg(identify_lib)]
+fn byte_run(config: &[u8], calls: &[u8], output: &mut [u8]) -> u32 {
+    unsafe extern "C" {
+        fn identify_byte_run(
+            config: *const u8,
+            config_len: usize,
+            calls: *const u8,
+            calls_len: usize,
+            output: *mut u8,
+            output_len: usize,
+        ) -> u32;
+    }
+    // SAFETY: each pointer and length is that of a slice, and the output's is lent to this call
+    // alone.
+    unsafe {
+        identify_byte_run(
+            config.as_ptr(),
+            config.len(),
+            calls.as_ptr(),
+            calls.len(),
+            output.as_mut_ptr(),
+            output.len(),
+        )
+    }
+}
