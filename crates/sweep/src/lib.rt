@@ -73,6 +73,24 @@ impl SquareSweep {
     }
 }
 
+// One tick of a sweep that is lent: it is moved on, and the offset is answered.
+pub fn advance(sweep: &mut SquareSweep, dt: f32, elapsed_s: f32) -> f32
+    ensures { λ r. ⌜ (r ≡ nextSweep (now (sweep .entry)) dt «elapsed_s» .offset)
+        × (now (sweep .exit) ≡ nextSweep (now (sweep .entry)) dt «elapsed_s» .sweep) ⌝ }
+{
+    let swept = (*sweep).next(dt, elapsed_s);
+    *sweep = swept.sweep;
+    swept.offset
+}
+
+// The same of a sweep by value, for callers that hold no borrow of one.
+pub fn advanced(mut sweep: SquareSweep, dt: f32, elapsed_s: f32) -> Swept
+    ensures { λ r. ⌜ r ≡ nextSweep sweep dt «elapsed_s» ⌝ }
+{
+    let offset = advance(&mut sweep, dt, elapsed_s);
+    Swept { offset, sweep }
+}
+
 fn is_due(sweep: SquareSweep, elapsed_s: f32) -> bool
     ensures { λ r. ⌜ r ≡ due «elapsed_s» sweep ⌝ }
 {
