@@ -334,7 +334,7 @@ fn tick(
     all_whole(*rates, *moments, *offsets, *held);
     let now_s = elapsed_s + dt;
     let sweep = probe.sweep;
-    let swept = sweep.next(dt, now_s);
+    let swept = sweep::advanced(sweep, dt, now_s);
     let stored = probe.window;
     let window = window::record_tick(
         stored,
