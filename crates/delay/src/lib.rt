@@ -43,6 +43,7 @@ pub enum Residual {
 
 impl Delay {
     // The recorded fit tries whole ticks: its position p is p ticks. A position is at most 20, the length of the rule's list.
+    // Open for the recorded fit only.
     pub fn from_recorded(position: usize) -> Delay
         requires { ⌜ position ≤ entryCount ⌝ }
         ensures { λ r. ⌜ r ≡ ofRecorded position ⌝ }
@@ -53,6 +54,7 @@ impl Delay {
     }
 
     // The integrated fit tries half ticks from one tick on: its position p is p + 1 half ticks.
+    // Open for the integrated fit only.
     pub fn from_integrated(position: usize) -> Delay
         requires { ⌜ position ≤ entryCount ⌝ }
         ensures { λ r. ⌜ r ≡ ofIntegrated position ⌝ }

@@ -33,6 +33,7 @@ pub struct StepSums {
 
 // The moments through a lag, as the regressors of a pole: whole ticks at even places, half ticks at odd ones.
 // A caller's len is that of a window, at most 2,048.
+// Open for the integrated fit only.
 pub fn lag_through(moments: &[f32; 2048], pole: f32, len: usize, xs: &mut [f64; 4096])
     requires { ⌜ len ≤ 2048 ⌝ }
     ensures { λ r. ⌜ now (xs .exit) ≡ fill (woven (felt pole (at (now (moments .entry))))) (now (xs .entry)) (len * 2) ⌝ }
@@ -88,6 +89,7 @@ fn dot(a: &[f64; 2048], b: &[f64; 2048], n: usize) -> f64
 }
 
 // What does not depend on a pole or a step, once a window. A caller's ticks are those from 11 on of at most 2,048.
+// Open for the integrated fit only.
 pub fn prepare(
     rates: &[f32; 2048],
     carry: f64,
@@ -166,6 +168,7 @@ fn first_place(step: usize) -> usize
 }
 
 // The fit of a step at a pole, from a window's moments, its two leaky series and their sums. Asked with what `prepare` made of a window only.
+// Open for the integrated fit only.
 pub fn fit_at(
     moments: &[f32; 2048],
     cs: &[f64; 2048],

@@ -328,6 +328,7 @@ fn fit_long(rates: &[f32; 2048], moments: &[f32; 2048], n: usize, dt_s: f32) -> 
 }
 
 // What each step keeps of a window of n ticks, more than 11 of them: the grid by itself, for whoever replays one.
+// Open for the program that replays grids only.
 pub fn keep_window(rates: &[f32; 2048], moments: &[f32; 2048], n: usize, dt_s: f32) -> [Kept; 20]
     requires { ⌜ (firstTick ≤ n) × (n ≤ 2048) ⌝ }
     ensures { λ r. ⌜ r ≡ tableOf (keptAt «dt_s» (windowFit (now (rates .entry)) (now (moments .entry)) «dt_s» n)) ⌝ }

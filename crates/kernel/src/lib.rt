@@ -62,6 +62,7 @@ fn ten_fits(sums: TenSums, w: Shared, step: usize, fits: [GainFit; 20]) -> [Gain
 }
 
 // The fits of all steps, from the woven regressors of a pole. Asked with what `gain::prepare` made of a window only.
+// Open for the integrated fit only.
 pub fn fit_steps(xs: &[f64; 4096], cs: &[f64; 2048], ts: &[f64; 2048], w: Shared) -> [GainFit; 20]
     requires { ⌜ (w .ticks ≤ 2037) × Totals (at (now cs)) (at (now ts)) w ⌝ }
     ensures { λ r. ⌜ r ≡ fill (stepFit (now (xs .entry)) (now (cs .entry)) (now (ts .entry)) w) (replicate stepCount GainFit.Nothing) stepCount ⌝ }

@@ -144,6 +144,7 @@ pub fn lag(i: usize) -> f32
 }
 
 // The poles of a grid at this tick: 0, then one for each lag. Asked for these 129 only.
+// Open for the integrated fit and its replay only.
 pub fn pole(dt_s: f32, i: usize) -> f32
     requires { ⌜ i ≤ lagCount ⌝ }
     ensures { λ r. ⌜ r ≡ poleOf «dt_s» i ⌝ }

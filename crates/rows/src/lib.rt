@@ -26,6 +26,7 @@ pub const HISTORY: usize = 12;
 // ---- one delay by itself
 
 // How many good ticks stand in a row once a tick with this mark is counted: a held one empties the history.
+// Open for the recorded fit only.
 pub fn next_run(held: bool, run: usize) -> usize
     requires { ⌜ run < 2048 ⌝ }
     ensures { λ r. ⌜ (r ≡ cond held 0 (suc run)) × (r ≤ run + 1) ⌝ }
@@ -79,8 +80,9 @@ pub fn no_sums() -> Sums
     }
 }
 
-// The sums of delay d with the rows of a window's first `len` ticks added, in tick order. The fits call it at a window's own
-// length and a delay that they try.
+// The sums of delay d with the rows of a window's first `len` ticks added, in tick order. Asked at a window's own
+// length and a delay of the fit.
+// Open for the program that replays sums only.
 pub fn add_window(
     rates: &[f32; 2048],
     moments: &[f32; 2048],
@@ -228,6 +230,7 @@ fn sum_pairs(moments: &[f32; 2048], held: &[bool; 2048], o: usize, len: usize) -
     sums
 }
 
+// Open for the recorded fit and its replay only.
 pub fn sum_shared(
     rates: &[f32; 2048],
     moments: &[f32; 2048],
@@ -301,6 +304,7 @@ fn cross(shared: SharedSums, d: usize, a: usize, b: usize) -> f32
 }
 
 // The sums of delay d, as `add_window` makes them from none.
+// Open for the recorded fit and its replay only.
 pub fn delay_sums(shared: SharedSums, d: usize) -> Sums
     requires { ⌜ (1 ≤ d) × (d ≤ 10) ⌝ }
     ensures { λ r. ⌜ r ≡ delaySums shared d ⌝ }

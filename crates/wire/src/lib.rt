@@ -13,6 +13,7 @@ fn byte(bytes: &[u8], at: usize) -> u32
 }
 
 // The word at byte `at`.
+// Open for the byte run, inside its buffers only.
 pub fn read_word(bytes: &[u8], at: usize) -> u32
     requires { ⌜ at + 4 ≤ length (now bytes) ⌝ }
     ensures { λ r. ⌜ r ≡ wordAt (now (bytes .entry)) at ⌝ }
@@ -22,6 +23,7 @@ pub fn read_word(bytes: &[u8], at: usize) -> u32
 }
 
 // The float at byte `at`; every NaN pattern gives NaN.
+// Open for the byte run, inside its buffers only.
 pub fn read_float(bytes: &[u8], at: usize) -> f32
     requires { ⌜ at + 4 ≤ length (now bytes) ⌝ }
     ensures { λ r. ⌜ r ≡ floatAt (now (bytes .entry)) at ⌝ }
@@ -30,6 +32,7 @@ pub fn read_float(bytes: &[u8], at: usize) -> f32
 }
 
 // The word's bytes from byte `at` on; every other byte stays.
+// Open for the byte run, inside its buffers only.
 pub fn write_word(out: &mut [u8], at: usize, word: u32)
     requires { ⌜ at + 4 ≤ length (now out) ⌝ }
     ensures { λ _. ⌜ now (out .exit) ≡ writtenAt at (bytesOf 4 word) (now (out .entry)) ⌝ }
@@ -41,6 +44,7 @@ pub fn write_word(out: &mut [u8], at: usize, word: u32)
 }
 
 // The float's bytes from byte `at` on; a NaN is written as 7FC00000.
+// Open for the byte run, inside its buffers only.
 pub fn write_float(out: &mut [u8], at: usize, x: f32)
     requires { ⌜ at + 4 ≤ length (now out) ⌝ }
     ensures { λ _. ⌜ now (out .exit) ≡ writtenAt at (bytesOf 4 (wordOf x)) (now (out .entry)) ⌝ }
