@@ -10,7 +10,7 @@ use lib.ListN.{length, getD, set, length-set}
 use lib.Seq.{getD-set-same, getD-set-other}
 use lib.Ieee.{Float, nan}
 use Rattle.float.specs.Series.{fill, at}
-use Rattle.gain.specs.Prepared.{woven}
+use Rattle.gain.specs.Prepared.{laneCount, woven}
 
 module _ {A : Type 0} (f : ℕ → List A → A) (l : List A) where
   pub length-fill : (n : ℕ) → length (fill f l n) ≡ length l
@@ -45,20 +45,23 @@ fill-same f g l (suc n) h =
     let e = fill-same f g l n (λ j k p. h j k (omega arith)) in
     rw (e, h n (fill g l n) (omega arith)) refl
 
--- two series side by side: a pair more, and the entries that stand at every second place
+-- the lanes side by side: a pair more, and the entries of one lane
 module _ (f : ℕ → ℕ → Float) (l : List Float) where
-  pub pair-more : (k : ℕ) → set (set (fill (woven f) l (k * 2)) (k * 2) (f 0 k)) (k * 2 + 1) (f 1 k) ≡ fill (woven f) l ((k + 1) * 2)
+  pub pair-more : (k q : ℕ) → q < 3
+      → set (set (fill (woven f) l (k * laneCount + q * 2)) (k * laneCount + q * 2) (f (q * 2) k)) (k * laneCount + q * 2 + 1) (f (q * 2 + 1) k)
+      ≡ fill (woven f) l (k * laneCount + (q + 1) * 2)
   unfolding fill
-  pair-more k =
-      let s : (k + 1) * 2 ≡ suc (suc (k * 2)) = omega arith in
-      let e₀ : k * 2 % 2 ≡ 0 = omega arith in
-      let e₁ : k * 2 / 2 ≡ k = omega arith in
-      let o₀ : suc (k * 2) % 2 ≡ 1 = omega arith in
-      let o₁ : suc (k * 2) / 2 ≡ k = omega arith in
-      rw (s, e₀, e₁, o₀, o₁, add-one (k * 2)) refl
+  pair-more k q p =
+      let s : k * laneCount + (q + 1) * 2 ≡ suc (suc (k * laneCount + q * 2)) = omega arith in
+      let e₀ : (k * laneCount + q * 2) % laneCount ≡ q * 2 = omega arith in
+      let e₁ : (k * laneCount + q * 2) / laneCount ≡ k = omega arith in
+      let o₀ : suc (k * laneCount + q * 2) % laneCount ≡ q * 2 + 1 = omega arith in
+      let o₁ : suc (k * laneCount + q * 2) / laneCount ≡ k = omega arith in
+      rw (s, e₀, e₁, o₀, o₁, add-one (k * laneCount + q * 2)) refl
 
-  pub woven-at : (n b h i : ℕ) → n * 2 ≤ length l → h < 2 → b + i < n → at (fill (woven f) l (n * 2)) (b * 2 + h + i * 2) ≡ f h (b + i)
+  pub woven-at : (n b h i : ℕ) → n * laneCount ≤ length l → h < laneCount → b + i < n
+      → at (fill (woven f) l (n * laneCount)) (b * laneCount + h + i * laneCount) ≡ f h (b + i)
   woven-at n b h i p q r =
-      let e₀ : (b * 2 + h + i * 2) % 2 ≡ h = omega arith in
-      let e₁ : (b * 2 + h + i * 2) / 2 ≡ b + i = omega arith in
-      filled (woven f) l nan (n * 2) (b * 2 + h + i * 2) p (omega arith) ∙ (λ j. f (e₀ j) (e₁ j))
+      let e₀ : (b * laneCount + h + i * laneCount) % laneCount ≡ h = omega arith in
+      let e₁ : (b * laneCount + h + i * laneCount) / laneCount ≡ b + i = omega arith in
+      filled (woven f) l nan (n * laneCount) (b * laneCount + h + i * laneCount) p (omega arith) ∙ (λ j. f (e₀ j) (e₁ j))

@@ -1,4 +1,5 @@
 pub mod Fill
+pub mod Poles
 pub mod Below
 pub mod Accumulators
 pub mod Window

@@ -1,6 +1,6 @@
 -- The sums that the code makes are those of the definition: the woven regressors are a step's, and the filled series the window's.
-use Prim.Native.Nat.{ℕ, _+_, _-_, _*_, _≤_}
-use mathlib.Core.Path.{_≡_, refl}
+use Prim.Native.Nat.{ℕ, _+_, _-_, _*_, _/_, _%_, _≤_, _<_}
+use mathlib.Core.Path.{_≡_, refl, _∙_}
 use mathlib.Core.List.{List}
 use native.Mathlib.Omega.{arith}
 use lib.ListN.{length}
@@ -9,9 +9,10 @@ use Rattle.float.specs.Values.{one64}
 use Rattle.float.specs.Series.{at, fill}
 use Rattle.gain.specs.declared.Shared.{Shared}
 use Rattle.gain.specs.declared.StepSums.{StepSums}
-use Rattle.gain.specs.Gain.{firstTick, wholeTicksOf, isHalf, felt, change, through, solved, fitted, gainFit}
-use Rattle.gain.specs.Prepared.{series, woven, stepSeries, fitAt, Summed, Totals, Prepared}
+use Rattle.gain.specs.Gain.{firstTick, stepCount, wholeTicksOf, isHalf, felt, change, through, solved, fitted, gainFit}
+use Rattle.gain.specs.Prepared.{series, laneCount, woven, laneSeries, fitAt, Summed, Totals, Prepared}
 use Rattle.gain.proofs.Fill.{filled, woven-at}
+use Rattle.gain.proofs.Poles.{lane-of}
 use Rattle.gain.proofs.Below.{Agree, through-same, felt-same, fitted-same}
 
 -- what solve makes of the six sums of three series is their fit
@@ -20,14 +21,17 @@ pub solved-is : (m c t : ℕ → Float) (s : StepSums) (w : Shared) → Summed m
 unfolding fitted
 solved-is m c t s w h o = rw (h .squares, h .constants, h .targets, o .constants, o .both, o .targets) refl
 
--- with the regressors of a pole woven in xs, the fit of a step's places is the fit of that step at the pole
-pub step-fit : (u c t : ℕ → Float) (carry pole : Float) (l xs : List Float) (n s : ℕ) → length l ≡ 4096 → n ≤ 2037
-    → xs ≡ fill (woven (felt pole u)) l ((n + 11) * 2) → fitted (through carry (stepSeries xs s)) c t n ≡ fitAt carry u c t n s pole
-step-fit u c t carry pole l xs n s e h w =
+-- with the regressors of three poles woven in xs, the fit of a step's places in the lane of a pole is the fit of that step at the pole
+pub lane-fit : (u c t : ℕ → Float) (carry : Float) (poles : List Float) (l xs : List Float) (n q s : ℕ) → length l ≡ 12288 → n ≤ 2037 → q < 3 → s < stepCount
+    → xs ≡ fill (woven (laneSeries poles u)) l ((n + 11) * laneCount)
+    → fitted (through carry (λ i. at xs ((11 - s / 2) * laneCount + (q * 2 + s % 2) + i * laneCount))) c t n ≡ fitAt carry u c t n s (at poles q)
+lane-fit u c t carry poles l xs n q s e h p r w =
+    let d : 11 - s / 2 ≡ firstTick + 1 - wholeTicksOf s = omega arith in
     fitted-same _ _ _ _ _ _ n
     (through-same carry _ _ n
-    (λ i p. rw w (woven-at (felt pole u) l (n + 11) (firstTick + 1 - wholeTicksOf s) (isHalf s) i (omega arith) (omega arith) (omega arith))))
-    (λ i p. refl) (λ i p. refl)
+    (λ i o. rw w (woven-at (laneSeries poles u) l (n + 11) (11 - s / 2) (q * 2 + s % 2) i (omega arith) (omega arith) (omega arith))
+    ∙ lane-of poles u q (s % 2) (11 - s / 2 + i) (omega arith) ∙ (λ j. felt (at poles q) u (isHalf s) (d j + i))))
+    (λ i o. refl) (λ i o. refl)
 
 -- with the two leaky series prepared, it is the window's gain fit
 pub window-fit : (carry : Float) (u rate : ℕ → Float) (n : ℕ) (cs₀ ts₀ cs ts : List Float) (w : Shared) → n ≤ length cs₀ → n ≤ length ts₀

@@ -1,6 +1,6 @@
--- What the code keeps for the gain fits of a window: two series woven side by side, and the sums that no pole and no step is in.
+-- What the code keeps for the gain fits of a window: six series woven side by side, and the sums that no pole and no step is in.
 -- Inner functions are stated by these; the fit itself is in Gain.antt.
-use Prim.Native.Nat.{ℕ, _+_, _-_, _*_, _/_, _%_}
+use Prim.Native.Nat.{ℕ, _+_, _-_, _/_, _%_}
 use mathlib.Core.Path.{_≡_}
 use mathlib.Core.List.{List}
 use lib.Ieee.{Float, binary64}
@@ -9,23 +9,27 @@ use Rattle.float.specs.Series.{at, dotTo, fill}
 use Rattle.gain.specs.declared.GainFit.{GainFit}
 use Rattle.gain.specs.declared.Shared.{Shared}
 use Rattle.gain.specs.declared.StepSums.{StepSums}
-use Rattle.gain.specs.Gain.{firstTick, wholeTicksOf, isHalf, regressor, change, through, fitted}
+use Rattle.gain.specs.Gain.{firstTick, wholeTicksOf, felt, regressor, change, through, fitted}
 
 -- a series as the entries of a fill
 abbrev pub series : (ℕ → Float) → ℕ → List Float → Float
 series f k l = f k
 
--- two series side by side: f 0 at the even places, f 1 at the odd ones
+-- three poles at once, two lanes to a pole: its whole ticks, and then its half ticks
+abbrev pub laneCount : ℕ
+laneCount = 6
+
+-- the series of the lanes side by side
 abbrev pub woven : (ℕ → ℕ → Float) → ℕ → List Float → Float
-woven f k l = f (k % 2) (k / 2)
+woven f k l = f (k % laneCount) (k / laneCount)
 
--- where the regressors of step s begin among the woven ones: at the newer moment of tick 11
-abbrev pub firstPlace : ℕ → ℕ
-firstPlace s = (firstTick + 1 - wholeTicksOf s) * 2 + isHalf s
+-- the moments felt in lane h
+abbrev pub laneSeries : List Float → (ℕ → Float) → ℕ → ℕ → Float
+laneSeries poles u h = felt (at poles (h / 2)) u (h % 2)
 
--- the regressors of step s among the woven ones, one tick after another
-abbrev pub stepSeries : List Float → ℕ → ℕ → Float
-stepSeries xs s i = at xs (firstPlace s + i * 2)
+-- where the moments of step s begin: at the newer one of tick 11
+abbrev pub firstMoment : ℕ → ℕ
+firstMoment s = firstTick + 1 - wholeTicksOf s
 
 -- the gain fit of step s at a pole, of the moments u and of the leaky series c and t
 abbrev pub fitAt : Float → (u c t : ℕ → Float) → ℕ → ℕ → Float → GainFit

@@ -1,11 +1,12 @@
 // Gain fits: least squares of the integrated rate on the integrated lagged moment and a constant.
 ghost use mathlib.Core.Path.{_≡_};
 ghost use Prim.Native.Nat.{_+_, _*_, _-_, _≤_, min};
-ghost use lib.Ieee.{binary64};
-ghost use Rattle.float.specs.Values.{one64};
+ghost use lib.Ieee.{binary32, binary64, add, sub, mul};
+ghost use Rattle.float.specs.Values.{one32, one64};
 ghost use Rattle.float.specs.Series.{at, dotTo, fill};
-ghost use Rattle.gain.specs.Gain.{firstTick, felt, change, through, solved, gainFit};
-ghost use Rattle.gain.specs.Prepared.{series, woven, firstPlace, fitAt, Summed, Totals, Prepared};
+ghost use Rattle.lags.specs.Lags.{lagTo};
+ghost use Rattle.gain.specs.Gain.{firstTick, blend as blendOf, regressor, change, through, solved, gainFit};
+ghost use Rattle.gain.specs.Prepared.{series, woven, laneCount, laneSeries, firstMoment, fitAt, Summed, Totals, Prepared};
 
 // One gain fit: the gain and the residual, or no fit.
 pub enum GainFit {
@@ -31,22 +32,44 @@ pub struct StepSums {
 
 // ---- the series
 
-// The moments through a lag, as the regressors of a pole: whole ticks at even places, half ticks at odd ones.
-// A caller's len is that of a window, at most 2,048.
-// Open for the integrated fit only.
-pub fn lag_through(moments: &[f32; 2048], pole: f32, len: usize, xs: &mut [f64; 4096])
-    requires { ⌜ len ≤ 2048 ⌝ }
-    ensures { λ r. ⌜ now (xs .exit) ≡ fill (woven (felt pole (at (now (moments .entry))))) (now (xs .entry)) (len * 2) ⌝ }
+// A lagged moment, one moment on.
+fn lag_on(pole: f32, lagged: f32, moment: f32) -> f32
+    ensures { λ r. ⌜ r ≡ add binary32 (mul binary32 pole lagged) (mul binary32 (sub binary32 one32 pole) moment) ⌝ }
 {
-    let rest = 1.0 - pole;
-    let mut lagged = 0.0f32;
-    let mut last = 0.0f64;
+    pole * lagged + (1.0 - pole) * moment
+}
+
+// The moment that a step feels: the newer one, or at a half step half of each.
+fn blend(half: usize, newer: f64, older: f64) -> f64
+    ensures { λ r. ⌜ r ≡ blendOf half newer older ⌝ }
+{
+    if half == 0 {
+        return 1.0 * newer + 0.0 * older;
+    }
+    0.5 * newer + 0.5 * older
+}
+
+// The moments through three lags at once, as the regressors of three poles: six lanes a tick, for each pole its whole ticks and then its half ticks.
+// Three lags side by side do not wait for each other. A caller's len is that of a window, at most 2,048.
+// Open for the integrated fit only.
+pub fn lag_through(moments: &[f32; 2048], poles: [f32; 3], len: usize, xs: &mut [f64; 12288])
+    requires { ⌜ len ≤ 2048 ⌝ }
+    ensures { λ r. ⌜ now (xs .exit) ≡ fill (woven (laneSeries poles (at (now (moments .entry))))) (now (xs .entry)) (len * laneCount) ⌝ }
+{
+    let mut lagged = [0.0f32; 3];
+    let mut last = [0.0f64; 3];
     for k in 0..len {
-        lagged = pole * lagged + rest * moments[k];
-        let now = std::num::f32_to_f64_with_nan(lagged);
-        xs[k * 2] = 1.0 * now + 0.0 * last;
-        xs[k * 2 + 1] = 0.5 * now + 0.5 * last;
-        last = now;
+        let moment = moments[k];
+        for q in 0..3usize {
+            let next = lag_on(poles[q], lagged[q], moment);
+            let now = std::num::f32_to_f64_with_nan(next);
+            let older = last[q];
+            let place = k * 6 + q * 2;
+            xs[place] = blend(0, now, older);
+            xs[place + 1] = blend(1, now, older);
+            lagged[q] = next;
+            last[q] = now;
+        }
     }
 }
 
@@ -114,27 +137,57 @@ pub fn prepare(
     }
 }
 
-// The sums of one step, whose regressors stand at every second place from first on.
+// Where the moments of a step begin: at the one that tick 11 meets, 12 less the whole ticks.
+fn first_moment(step: usize) -> usize
+    ensures { λ r. ⌜ r ≡ firstMoment step ⌝ }
+{
+    let whole = step / 2 + 1;
+    if 12 <= whole {
+        return 0;
+    }
+    12 - whole
+}
+
+// The first n moments through a lag.
+fn lag_before(moments: &[f32; 2048], pole: f32, n: usize) -> f32
+    requires { ⌜ n ≤ 2048 ⌝ }
+    ensures { λ r. ⌜ r ≡ lagTo pole (at (now (moments .entry))) n ⌝ }
+{
+    let mut lagged = 0.0f32;
+    for k in 0..n {
+        lagged = lag_on(pole, lagged, moments[k]);
+    }
+    lagged
+}
+
+// The sums of one step at one pole, over n ticks.
 fn step_sums(
-    xs: &[f64; 4096],
+    moments: &[f32; 2048],
     cs: &[f64; 2048],
     ts: &[f64; 2048],
     carry: f64,
-    first: usize,
+    step: usize,
+    pole: f32,
     n: usize,
 ) -> StepSums
-    requires { ⌜ (n ≤ 2048) × (first + n * 2 ≤ 4097) ⌝ }
-    ensures { λ r. ⌜ Summed (through carry (λ i. at (now (xs .entry)) (first + i * 2))) (at (now (cs .entry))) (at (now (ts .entry))) n r ⌝ }
+    requires { ⌜ n ≤ 2037 ⌝ }
+    ensures { λ r. ⌜ Summed (through carry (regressor step pole (at (now (moments .entry))))) (at (now (cs .entry))) (at (now (ts .entry))) n r ⌝ }
 {
+    let first = first_moment(step);
+    let mut lagged = lag_before(moments, pole, first);
+    let mut last = std::num::f32_to_f64_with_nan(lagged);
     let mut m = 0.0f64;
     let mut mm = 0.0f64;
     let mut mc = 0.0f64;
     let mut mt = 0.0f64;
     for i in 0..n {
-        m = carry * m + xs[first + i * 2];
+        lagged = lag_on(pole, lagged, moments[first + i]);
+        let now = std::num::f32_to_f64_with_nan(lagged);
+        m = carry * m + blend(step % 2, now, last);
         mm = mm + m * m;
         mc = mc + m * cs[i];
         mt = mt + m * ts[i];
+        last = now;
     }
     StepSums { mm, mc, mt }
 }
@@ -156,17 +209,6 @@ pub fn solve(mm: f64, mc: f64, cc: f64, mt: f64, ct: f64, tt: f64) -> GainFit
     }
 }
 
-// Where the regressors of a step begin: at the moment that tick 11 meets, 12 less the whole ticks.
-fn first_place(step: usize) -> usize
-    ensures { λ r. ⌜ r ≡ firstPlace step ⌝ }
-{
-    let whole = step / 2 + 1;
-    if 12 <= whole {
-        return step % 2;
-    }
-    (12 - whole) * 2 + step % 2
-}
-
 // The fit of a step at a pole, from a window's moments, its two leaky series and their sums. Asked with what `prepare` made of a window only.
 // Open for the integrated fit only.
 pub fn fit_at(
@@ -180,10 +222,7 @@ pub fn fit_at(
     requires { ⌜ (w .ticks ≤ 2037) × Totals (at (now cs)) (at (now ts)) w ⌝ }
     ensures { λ r. ⌜ r ≡ fitAt (w .carry) (at (now (moments .entry))) (at (now (cs .entry))) (at (now (ts .entry))) (w .ticks) step pole ⌝ }
 {
-    let ticks = w.ticks;
-    let mut xs = [0.0f64; 4096];
-    lag_through(moments, pole, ticks + 11, &mut xs);
-    let s = step_sums(&xs, cs, ts, w.carry, first_place(step), ticks);
+    let s = step_sums(moments, cs, ts, w.carry, step, pole, w.ticks);
     solve(s.mm, s.mc, w.cc, s.mt, w.ct, w.tt)
 }
 

@@ -64,9 +64,10 @@ unfoldable pub openedBy : ℕ → IdentifyConfig → Opened
 openedBy zero c = opened.Probe (freshProbe c)
 openedBy (suc n) c = opened.Refused (suc n)
 
--- what a call answers, with the probe that it leaves: on a refusal the one that it found
+-- what a call answers, with the probe that it leaves: an ended probe, and on a refusal any probe, is the one that the call found
 unfoldable pub answered : Stepped → IdentifyProbe → (rates moments offsets : List Float) → List Bool → Step
 answered (stepped.Offset x q) p rates moments offsets marks = record { probe = seen q rates moments offsets marks; reply = offset x }
+answered stepped.Ended p rates moments offsets marks = record { probe = seen p rates moments offsets marks; reply = offset zero32 }
 answered (stepped.Refused n) p rates moments offsets marks = record { probe = seen p rates moments offsets marks; reply = refused n }
 
 -- the offset of an accepted call

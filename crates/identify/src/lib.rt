@@ -42,9 +42,10 @@ pub enum Opened {
     Refused(u32),
 }
 
-// What a call answers: its offset with the next probe, or the number of the rule that turns it back.
+// What a call answers: its offset with the next probe; that the probe has ended, so the offset is 0 and the probe stays as it is; or the number of the rule that turns the call back.
 pub enum Stepped {
     Offset(f32, IdentifyProbe),
+    Ended,
     Refused(u32),
 }
 
@@ -403,7 +404,7 @@ impl IdentifyProbe {
     }
 
     // Advances the probe by dt seconds, with the axis's body rate at this tick and the moment commanded on the last one.
-    // It answers the offset to add to the loop's setpoint, 0 once it has ended.
+    // It answers the offset to add to the loop's setpoint; once the probe has ended there is none to add.
     pub fn step(
         self,
         rates: &mut [f32; 2048],
@@ -427,7 +428,7 @@ impl IdentifyProbe {
             return Stepped::Refused(number);
         }
         let Clock::At(elapsed_s) = clock else {
-            return Stepped::Offset(0.0, self);
+            return Stepped::Ended;
         };
         tick(
             self,

@@ -8,6 +8,7 @@ use Rattle.lags.specs.Lags.{lagCount, poleOf}
 use Rattle.gain.specs.declared.GainFit.{GainFit}
 use Rattle.gain.specs.declared.GainFit.the-variants.{Nothing}
 use Rattle.gain.specs.Gain.{stepCount}
+use Rattle.kernel.specs.Kernel.{placeOf}
 use Rattle.integrated.specs.declared.Kept.{Kept}
 use Rattle.integrated.specs.declared.Kept.the-variants.{Empty}
 use Rattle.integrated.specs.Grid.{candidate, keepOf, keptTo, candidates}
@@ -16,9 +17,9 @@ use Rattle.integrated.specs.Grid.{candidate, keepOf, keptTo, candidates}
 abbrev pub keptBelow : Float → (ℕ → Float → GainFit) → ℕ → ℕ → Kept
 keptBelow dt fit i s = keptTo (candidates (poleOf dt) lagCount (fit s)) i
 
--- what a step keeps by a table, against its fit at one more pole
-abbrev pub against : (pole low high : Float) → List GainFit → ℕ → List Kept → Kept
-against pole low high fits s kept = keepOf (getD kept s Empty) (candidate pole low high (getD fits s Nothing))
+-- what a step keeps by a table, against its fit at one more pole, which is pole q of three
+abbrev pub against : (pole low high : Float) → List GainFit → ℕ → ℕ → List Kept → Kept
+against pole low high fits q s kept = keepOf (getD kept s Empty) (candidate pole low high (getD fits (placeOf q s) Nothing))
 
 -- what each step keeps, as a list
 abbrev pub tableOf : (ℕ → Kept) → List Kept

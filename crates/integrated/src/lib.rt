@@ -77,14 +77,22 @@ fn keep(kept: Kept, pole: f32, low: f32, high: f32, fit: GainFit) -> Kept
     }
 }
 
-// What each step keeps, against its fit at one more pole.
-fn keep_each(kept: [Kept; 20], pole: f32, low: f32, high: f32, fits: [GainFit; 20]) -> [Kept; 20]
-    ensures { λ r. ⌜ r ≡ fill (against pole low high fits) kept stepCount ⌝ }
+// What each step keeps, against its fit at one more pole: pole q, 0 to 2, of those that the fits are of.
+fn keep_each(
+    kept: [Kept; 20],
+    pole: f32,
+    low: f32,
+    high: f32,
+    fits: [GainFit; 60],
+    q: usize,
+) -> [Kept; 20]
+    requires { ⌜ q ≤ 2 ⌝ }
+    ensures { λ r. ⌜ r ≡ fill (against pole low high fits q) kept stepCount ⌝ }
 {
     let mut next = kept;
     for s in 0..20usize {
         let k = next[s];
-        let fit = fits[s];
+        let fit = fits[s / 2 * 6 + (q * 2 + s % 2)];
         next[s] = keep(k, pole, low, high, fit);
     }
     next
@@ -101,7 +109,7 @@ fn next_pole(dt_s: f32, i: usize, pole: f32) -> f32
     pole
 }
 
-// What each step keeps of all poles, from a window's moments, its leaky series and their sums.
+// What each step keeps of all poles, three of them at a time, from a window's moments, its leaky series and their sums.
 fn grid(
     moments: &[f32; 2048],
     cs: &[f64; 2048],
@@ -114,16 +122,19 @@ fn grid(
 {
     let len = w.ticks + 11;
     let mut kept = [Kept::Empty; 20];
-    let mut xs = [0.0f64; 4096];
+    let mut xs = [0.0f64; 12288];
     let mut low = 0.0f32;
     let mut pole = 0.0f32;
-    for i in 0..129usize {
-        let high = next_pole(dt_s, i, pole);
-        gain::lag_through(moments, pole, len, &mut xs);
+    for i in 0..43usize {
+        let second = next_pole(dt_s, i * 3, pole);
+        let third = next_pole(dt_s, i * 3 + 1, second);
+        let high = next_pole(dt_s, i * 3 + 2, third);
+        gain::lag_through(moments, [pole, second, third], len, &mut xs);
         let fits = kernel::fit_steps(&xs, cs, ts, w);
-        let next = keep_each(kept, pole, low, high, fits);
-        kept = next;
-        low = pole;
+        let one = keep_each(kept, pole, low, second, fits, 0);
+        let two = keep_each(one, second, pole, third, fits, 1);
+        kept = keep_each(two, third, second, high, fits, 2);
+        low = third;
         pole = high;
     }
     kept

@@ -1,4 +1,4 @@
--- The accumulators of ten steps side by side, in the middle of a tick: the lanes below h have its values in them, the others not yet.
+-- The accumulators of six lanes side by side, in the middle of a tick: the lanes below h have its values in them, the others not yet.
 use Prim.Native.Nat.{ℕ, _+_, _≤_, _<_}
 use mathlib.Core.Path.{_≡_, refl}
 use mathlib.Core.List.{List}
@@ -12,12 +12,13 @@ use lib.Ieee.{Float, nan, binary64, add, mul}
 use Rattle.float.specs.Values.{zero64}
 use Rattle.float.specs.Series.{at}
 use Rattle.gain.proofs.Accumulators.{Running, start, next}
-use Rattle.kernel.specs.Kernel.{laneCount, laneOf}
+use Rattle.gain.specs.Prepared.{laneCount}
+use Rattle.kernel.specs.Kernel.{sumsAt}
 
 module _ (carry : Float) (x : ℕ → ℕ → Float) (c t : ℕ → Float) where
   -- one lane, after i ticks
   abbrev At : ℕ → (m mm mc mt : List Float) → ℕ → Type 0
-  At i m mm mc mt h = Running carry (x h) c t i (at m h) (laneOf mm mc mt h)
+  At i m mm mc mt h = Running carry (x h) c t i (at m h) (sumsAt mm mc mt h)
 
   pub record Lanes (i h : ℕ) (m mm mc mt : List Float) : Type 0 where
     pub long : length m ≡ laneCount
@@ -74,7 +75,7 @@ module _ (carry : Float) (x : ℕ → ℕ → Float) (c t : ℕ → Float) where
               getD-set-same mc h (add binary64 (at mc h) (mul binary64 new (c i))) nan (rw (l .long-mc) p),
               getD-set-same mt h (add binary64 (at mt h) (mul binary64 new (t i))) nan (rw (l .long-mt) p),
             )
-            (next carry (x h) c t i (at m h) (laneOf mm mc mt h) v (l .left h (omega arith) p) e)
+            (next carry (x h) c t i (at m h) (sumsAt mm mc mt h) v (l .left h (omega arith) p) e)
 
         other : (k j : ℕ) → (j ≡ h → ⊥) → At k m mm mc mt j → At k (set m h new) (plus mm new) (plus mc (c i)) (plus mt (t i)) j
         other k j n r =

@@ -1,2 +1,2 @@
 pub mod Lanes
-pub mod Steps
+pub mod Places

@@ -1,4 +1,4 @@
--- What the kernel's functions are stated by: the lanes of ten steps, and the fit of each step from woven regressors.
+-- What the kernel's functions are stated by: the sums of lanes and places, and the fit of each place from woven regressors.
 use Prim.Native.Nat.{ℕ, _+_, _-_, _*_, _/_, _%_}
 use mathlib.Core.List.{List}
 use lib.Ieee.{Float}
@@ -6,28 +6,37 @@ use Rattle.float.specs.Series.{at}
 use Rattle.gain.specs.declared.GainFit.{GainFit}
 use Rattle.gain.specs.declared.Shared.{Shared}
 use Rattle.gain.specs.declared.StepSums.{StepSums}
-use Rattle.gain.specs.Gain.{through, solved, fitted}
-use Rattle.gain.specs.Prepared.{stepSeries}
-use Rattle.kernel.specs.declared.TenSums.{TenSums}
+use Rattle.gain.specs.Gain.{firstTick, through, solved, fitted}
+use Rattle.gain.specs.Prepared.{laneCount}
+use Rattle.kernel.specs.declared.LaneSums.{LaneSums}
+use Rattle.kernel.specs.declared.PlaceSums.{PlaceSums}
 
-abbrev pub laneCount : ℕ
-laneCount = 10
+-- ten whole ticks of six lanes
+abbrev pub placeCount : ℕ
+placeCount = 60
 
--- the sums of one lane
-abbrev pub laneOf : (mm mc mt : List Float) → ℕ → StepSums
-laneOf mm mc mt h = record { mm = at mm h; mc = at mc h; mt = at mt h }
+-- the sums at one place of three lists
+abbrev pub sumsAt : (mm mc mt : List Float) → ℕ → StepSums
+sumsAt mm mc mt h = record { mm = at mm h; mc = at mc h; mt = at mt h }
 
-abbrev pub lane : TenSums → ℕ → StepSums
-lane r = laneOf (r .mm) (r .mc) (r .mt)
+abbrev pub lane : LaneSums → ℕ → StepSums
+lane r = sumsAt (r .mm) (r .mc) (r .mt)
 
--- the lane of the j-th of ten steps: a longer delay stands before a shorter one, two lanes to a whole tick
-abbrev pub laneAt : ℕ → ℕ
-laneAt j = (4 - j / 2) * 2 + j % 2
+abbrev pub placeSums : PlaceSums → ℕ → StepSums
+placeSums r = sumsAt (r .mm) (r .mc) (r .mt)
 
--- the fit that the sums of a lane solve to
-abbrev pub solvedLane : TenSums → Shared → ℕ → GainFit
-solvedLane r w h = solved (at (r .mm) h) (at (r .mc) h) (w .cc) (at (r .mt) h) (w .ct) (w .tt)
+-- step s of pole q of three has its place by its whole ticks, then by the pole, then whole or half
+abbrev pub placeOf : ℕ → ℕ → ℕ
+placeOf q s = s / 2 * laneCount + (q * 2 + s % 2)
 
--- the fit of step s from the regressors woven in xs and the two leaky series, as an entry of a list
-abbrev pub stepFit : (xs cs ts : List Float) → Shared → ℕ → List GainFit → GainFit
-stepFit xs cs ts w s l = fitted (through (w .carry) (stepSeries xs s)) (at cs) (at ts) (w .ticks)
+-- the regressors of a place among the woven ones, one tick after another: its first is that of tick 11, and each whole tick of delay begins one tick before the last
+abbrev pub placeSeries : List Float → ℕ → ℕ → Float
+placeSeries xs p i = at xs ((firstTick - p / laneCount) * laneCount + p % laneCount + i * laneCount)
+
+-- the fit that the sums of a place solve to
+abbrev pub solvedPlace : PlaceSums → Shared → ℕ → GainFit
+solvedPlace r w p = solved (at (r .mm) p) (at (r .mc) p) (w .cc) (at (r .mt) p) (w .ct) (w .tt)
+
+-- the fit of a place from the regressors woven in xs and the two leaky series, as an entry of a list
+abbrev pub placeFit : (xs cs ts : List Float) → Shared → ℕ → List GainFit → GainFit
+placeFit xs cs ts w p l = fitted (through (w .carry) (placeSeries xs p)) (at cs) (at ts) (w .ticks)

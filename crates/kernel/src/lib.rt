@@ -1,43 +1,49 @@
-// The gain fits of one pole at all 20 steps, ten steps in one loop, so that no sum waits for the one before it.
+// The gain fits of three poles at all 20 steps. The lanes of a whole tick are summed in one loop: no sum waits for the one before it, and all of them stay in registers.
 ghost use mathlib.Core.Path.{_≡_};
 ghost use Prim.Native.Nat.{ℕ, _+_, _*_, _≤_, _<_};
-ghost use mathlib.Core.List.{List};
 ghost use lib.ListN.{replicate};
 ghost use Rattle.float.specs.Series.{at, fill};
-ghost use Rattle.gain.specs.Gain.{stepCount, through};
-ghost use Rattle.gain.specs.Prepared.{Summed, Totals};
-ghost use Rattle.kernel.specs.Kernel.{laneCount, laneAt, lane, solvedLane, stepFit};
+ghost use Rattle.gain.specs.Gain.{through};
+ghost use Rattle.gain.specs.Prepared.{laneCount, Summed, Totals};
+ghost use Rattle.kernel.specs.Kernel.{placeCount, lane, placeSums, placeSeries, solvedPlace, placeFit};
 use gain::GainFit;
 use gain::Shared;
 
-// The sums of ten steps side by side.
-pub struct TenSums {
-    pub mm: [f64; 10],
-    pub mc: [f64; 10],
-    pub mt: [f64; 10],
+// The sums of the six lanes of a whole tick side by side.
+pub struct LaneSums {
+    pub mm: [f64; 6],
+    pub mc: [f64; 6],
+    pub mt: [f64; 6],
 }
 
-// The sums of ten steps, whose regressors stand side by side from first on. The solving stands apart, so that the lanes stay packed in vector registers.
-fn ten_sums(
-    xs: &[f64; 4096],
+// The sums of all steps: six lanes for each of ten whole ticks, the shortest first.
+pub struct PlaceSums {
+    pub mm: [f64; 60],
+    pub mc: [f64; 60],
+    pub mt: [f64; 60],
+}
+
+// The sums of six lanes, whose regressors stand side by side from first on.
+fn sum_lanes(
+    xs: &[f64; 12288],
     cs: &[f64; 2048],
     ts: &[f64; 2048],
     carry: f64,
     first: usize,
     n: usize,
-) -> TenSums
-    requires { ⌜ (n ≤ 2048) × (first + n * 2 ≤ 4088) ⌝ }
-    ensures { λ r. ⌜ ((h : ℕ) → h < laneCount → Summed (through carry (λ i. at (now (xs .entry)) (first + i * 2 + h))) (at (now (cs .entry))) (at (now (ts .entry))) n (lane r h)) ⌝ }
+) -> LaneSums
+    requires { ⌜ (n ≤ 2048) × (first + n * 6 ≤ 12288) ⌝ }
+    ensures { λ r. ⌜ ((h : ℕ) → h < laneCount → Summed (through carry (λ i. at (now (xs .entry)) (first + i * 6 + h))) (at (now (cs .entry))) (at (now (ts .entry))) n (lane r h)) ⌝ }
 {
-    let mut m = [0.0f64; 10];
-    let mut mm = [0.0f64; 10];
-    let mut mc = [0.0f64; 10];
-    let mut mt = [0.0f64; 10];
+    let mut m = [0.0f64; 6];
+    let mut mm = [0.0f64; 6];
+    let mut mc = [0.0f64; 6];
+    let mut mt = [0.0f64; 6];
     for i in 0..n {
-        let place = first + i * 2;
+        let place = first + i * 6;
         let c = cs[i];
         let t = ts[i];
-        for h in 0..10 {
+        for h in 0..6 {
             let next = carry * m[h] + xs[place + h];
             m[h] = next;
             mm[h] = mm[h] + next * next;
@@ -45,30 +51,45 @@ fn ten_sums(
             mt[h] = mt[h] + next * t;
         }
     }
-    TenSums { mm, mc, mt }
+    LaneSums { mm, mc, mt }
 }
 
-// The fits of ten steps from their sums, put in their places from step on: among the lanes a longer delay stands before a shorter one, two lanes to a whole tick.
-fn ten_fits(sums: TenSums, w: Shared, step: usize, fits: [GainFit; 20]) -> [GainFit; 20]
-    requires { ⌜ step ≤ 10 ⌝ }
-    ensures { λ r. ⌜ ((f : ℕ → List GainFit → GainFit) (l : List GainFit) → fits ≡ fill f l step → ((j : ℕ) (k : List GainFit) → j < laneCount → solvedLane sums w (laneAt j) ≡ f (step + j) k) → r ≡ fill f l (step + laneCount)) ⌝ }
+// The sums of all steps, from the woven regressors of three poles. They go into arrays before they are solved, so that the compiler packs two lanes in a register.
+fn sum_places(xs: &[f64; 12288], cs: &[f64; 2048], ts: &[f64; 2048], w: Shared) -> PlaceSums
+    requires { ⌜ w .ticks ≤ 2037 ⌝ }
+    ensures { λ r. ⌜ ((p : ℕ) → p < placeCount → Summed (through (w .carry) (placeSeries (now (xs .entry)) p)) (at (now (cs .entry))) (at (now (ts .entry))) (w .ticks) (placeSums r p)) ⌝ }
 {
-    let mut next = fits;
-    for j in 0..10usize {
-        let h = (4 - j / 2) * 2 + j % 2;
-        next[step + j] = gain::solve(sums.mm[h], sums.mc[h], w.cc, sums.mt[h], w.ct, w.tt);
+    let mut mm = [0.0f64; 60];
+    let mut mc = [0.0f64; 60];
+    let mut mt = [0.0f64; 60];
+    for d in 0..10usize {
+        let sums = sum_lanes(xs, cs, ts, w.carry, (11 - d) * 6, w.ticks);
+        for h in 0..6usize {
+            let place = d * 6 + h;
+            mm[place] = sums.mm[h];
+            mc[place] = sums.mc[h];
+            mt[place] = sums.mt[h];
+        }
     }
-    next
+    PlaceSums { mm, mc, mt }
 }
 
-// The fits of all steps, from the woven regressors of a pole. Asked with what `gain::prepare` made of a window only.
-// Open for the integrated fit only.
-pub fn fit_steps(xs: &[f64; 4096], cs: &[f64; 2048], ts: &[f64; 2048], w: Shared) -> [GainFit; 20]
-    requires { ⌜ (w .ticks ≤ 2037) × Totals (at (now cs)) (at (now ts)) w ⌝ }
-    ensures { λ r. ⌜ r ≡ fill (stepFit (now (xs .entry)) (now (cs .entry)) (now (ts .entry)) w) (replicate stepCount GainFit.Nothing) stepCount ⌝ }
+// The fits of all steps from their sums.
+fn solve_places(sums: PlaceSums, w: Shared) -> [GainFit; 60]
+    ensures { λ r. ⌜ r ≡ fill (λ p l. solvedPlace sums w p) (replicate placeCount GainFit.Nothing) placeCount ⌝ }
 {
-    let short = ten_sums(xs, cs, ts, w.carry, 14, w.ticks);
-    let long = ten_sums(xs, cs, ts, w.carry, 4, w.ticks);
-    let none = [GainFit::Nothing; 20];
-    ten_fits(long, w, 10, ten_fits(short, w, 0, none))
+    let mut fits = [GainFit::Nothing; 60];
+    for p in 0..60usize {
+        fits[p] = gain::solve(sums.mm[p], sums.mc[p], w.cc, sums.mt[p], w.ct, w.tt);
+    }
+    fits
+}
+
+// The fits of three poles at all steps, from their woven regressors. Asked with what `gain::prepare` made of a window only.
+// Open for the integrated fit only.
+pub fn fit_steps(xs: &[f64; 12288], cs: &[f64; 2048], ts: &[f64; 2048], w: Shared) -> [GainFit; 60]
+    requires { ⌜ (w .ticks ≤ 2037) × Totals (at (now cs)) (at (now ts)) w ⌝ }
+    ensures { λ r. ⌜ r ≡ fill (placeFit (now (xs .entry)) (now (cs .entry)) (now (ts .entry)) w) (replicate placeCount GainFit.Nothing) placeCount ⌝ }
+{
+    solve_places(sum_places(xs, cs, ts, w), w)
 }

@@ -12,13 +12,14 @@ use Rattle.account.specs.Rules.{positive, overrun, refusal}
 use Rattle.account.specs.Probe.{Call, Probe, number, clock, tick, answer, step}
 use Rattle.identify.specs.declared.IdentifyProbe.{IdentifyProbe}
 use Rattle.identify.specs.declared.Stepped.{Stepped}
-use Rattle.identify.specs.declared.Stepped.the-variants.{Offset, Refused}
+use Rattle.identify.specs.declared.Stepped.the-variants.{Offset, Ended, Refused}
 use Rattle.identify.specs.Seen.{answered}
 use Rattle.report.specs.Answers.{replyOf}
 
 pub replied : (s : Stepped) (p : IdentifyProbe) (rates moments offsets : List Float) (marks : List Bool) → answered s p rates moments offsets marks .reply ≡ replyOf s
 unfolding answered replyOf
 replied (Offset x q) p rates moments offsets marks = refl
+replied Ended p rates moments offsets marks = refl
 replied (Refused n) p rates moments offsets marks = refl
 
 at-most : (l m : Bool) → cond l 7 (cond m 8 0) ≤ 8

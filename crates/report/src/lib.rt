@@ -201,24 +201,27 @@ fn call_at(calls: &[u8], at: usize) -> Call
 
 // ---- a byte run
 
-// The word that a call writes: its offset, or 7FC00000 and the number of the rule that turned it back.
-fn reply_word(stepped: Stepped) -> u32
-    requires { ⌜ number (replyOf stepped) ≤ 8 ⌝ }
-    ensures { λ r. ⌜ r ≡ replyWord (replyOf stepped) ⌝ }
+// What a call answers. Its word is written at byte `at`: its offset, 0 of an ended probe, or 7FC00000 and the number of the rule that turned it back.
+// The result is the probe that the call leaves, an ended one or on a refusal the one that it found.
+// The answer is matched once, so that the compiler keeps the probe in registers.
+fn answer(stepped: Stepped, probe: IdentifyProbe, output: &mut [u8], at: usize) -> IdentifyProbe
+    requires { ⌜ (number (replyOf stepped) ≤ 8) × (at + 4 ≤ length (now output)) ⌝ }
+    ensures probe { λ r. ⌜ ((rates moments offsets : List Float) (marks : List Bool) → seen r rates moments offsets marks ≡ answered stepped probe rates moments offsets marks .probe) ⌝ }
+    ensures output { λ r. ⌜ now (output .exit) ≡ writtenAt at (bytesOf 4 (replyWord (replyOf stepped))) (now (output .entry)) ⌝ }
 {
     match stepped {
-        Stepped::Offset(x, _) => float::to_word(x),
-        Stepped::Refused(n) => 0x7fc0_0000 + n,
-    }
-}
-
-// The probe that a call leaves: on a refusal the one that it found.
-fn next_probe(stepped: Stepped, probe: IdentifyProbe) -> IdentifyProbe
-    ensures { λ r. ⌜ ((rates moments offsets : List Float) (marks : List Bool) → seen r rates moments offsets marks ≡ answered stepped probe rates moments offsets marks .probe) ⌝ }
-{
-    match stepped {
-        Stepped::Offset(_, next) => next,
-        Stepped::Refused(_) => probe,
+        Stepped::Offset(x, next) => {
+            wire::write_word(output, at, float::to_word(x));
+            next
+        }
+        Stepped::Ended => {
+            wire::write_word(output, at, float::to_word(0.0));
+            probe
+        }
+        Stepped::Refused(n) => {
+            wire::write_word(output, at, 0x7fc0_0000 + n);
+            probe
+        }
     }
 }
 
@@ -247,8 +250,7 @@ fn run_call(
         call.rate,
         call.moment,
     );
-    wire::write_word(output, 36 + 4 * k, reply_word(stepped));
-    next_probe(stepped, probe)
+    answer(stepped, probe, output, 36 + 4 * k)
 }
 
 // A count that is 0 until the probe has ended.

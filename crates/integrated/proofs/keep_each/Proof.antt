@@ -12,10 +12,10 @@ use Rattle.integrated.proofs.keep_each.Statement.{statement}
 use Rattle.integrated.proofs.keep_each.Tie as tie
 
 abbrev Inv-loop : tie.InvT-loop
-Inv-loop pole low high fits next₀ s₀ next s = (s ≤ stepCount) × (next ≡ fill (against pole low high fits) next₀ s)
+Inv-loop pole low high q fits next₀ s₀ next s = (s ≤ stepCount) × (next ≡ fill (against pole low high fits q) next₀ s)
 
 abbrev μ-loop : tie.MeasureT-loop
-μ-loop pole low high fits next₀ s₀ next s = stepCount - s
+μ-loop pole low high q fits next₀ s₀ next s = stepCount - s
 
 loop-holds : tie.Need-loop-holds Inv-loop μ-loop
 unfolding fill
@@ -29,6 +29,18 @@ array-copy-out-k c = omega arith
 
 mul-fit : tie.Need-mul-fit Inv-loop μ-loop
 mul-fit c = omega arith
+
+mul-fit-2 : tie.Need-mul-fit-2 Inv-loop μ-loop
+mul-fit-2 c = omega arith
+
+add-fit : tie.Need-add-fit Inv-loop μ-loop
+add-fit c = omega arith
+
+add-fit-2 : tie.Need-add-fit-2 Inv-loop μ-loop
+add-fit-2 c = omega arith
+
+mul-fit-3 : tie.Need-mul-fit-3 Inv-loop μ-loop
+mul-fit-3 c = omega arith
 
 array-copy-out-fit : tie.Need-array-copy-out-fit Inv-loop μ-loop
 array-copy-out-fit c = omega arith
@@ -65,6 +77,10 @@ keep-each-spec =
     mul-k
     array-copy-out-k
     mul-fit
+    mul-fit-2
+    add-fit
+    add-fit-2
+    mul-fit-3
     array-copy-out-fit
     keep-requires
     mul-next

@@ -1,22 +1,22 @@
--- `kernel::ten_sums` meets its contract. The outer loop's invariant: every lane has the first i ticks in it; the inner loop's: the lanes below h have tick i too
+-- `kernel::sum_lanes` meets its contract. The outer loop's invariant: every lane has the first i ticks in it; the inner loop's: the lanes below h have tick i too
 -- (`Lanes`, proofs/Lanes.antt). The measures are the ticks and the lanes left.
 use Prim.Native.Nat.{_≤_, _-_, _+_, _*_}
 use mathlib.Core.Path.{_≡_, refl}
 use native.Mathlib.Omega.{arith}
 use Rattle.float.specs.Series.{at}
-use Rattle.kernel.specs.Kernel.{laneCount}
+use Rattle.gain.specs.Prepared.{laneCount}
 use Rattle.kernel.proofs.Lanes.{Lanes, begin, on, turn}
-use Rattle.kernel.proofs.ten_sums.Statement.{statement}
-use Rattle.kernel.proofs.ten_sums.Tie as tie
+use Rattle.kernel.proofs.sum_lanes.Statement.{statement}
+use Rattle.kernel.proofs.sum_lanes.Tie as tie
 
 abbrev Inv-loop2 : tie.InvT-loop2
-Inv-loop2 xs cs ts carry first n m₀ mm₀ mc₀ mt₀ i place c t h₀ m mm mc mt h = (h ≤ laneCount) × Lanes carry (λ j k. at xs (first + k * 2 + j)) (at cs) (at ts) i h m mm mc mt
+Inv-loop2 xs cs ts carry first n m₀ mm₀ mc₀ mt₀ i place c t h₀ m mm mc mt h = (h ≤ laneCount) × Lanes carry (λ j k. at xs (first + k * 6 + j)) (at cs) (at ts) i h m mm mc mt
 
 abbrev μ-loop2 : tie.MeasureT-loop2
 μ-loop2 xs cs ts carry first n m₀ mm₀ mc₀ mt₀ i place c t h₀ m mm mc mt h = laneCount - h
 
 abbrev Inv-loop : tie.InvT-loop
-Inv-loop xs cs ts carry first n m₀ mm₀ mc₀ mt₀ i₀ m mm mc mt i = (i ≤ n) × Lanes carry (λ j k. at xs (first + k * 2 + j)) (at cs) (at ts) i 0 m mm mc mt
+Inv-loop xs cs ts carry first n m₀ mm₀ mc₀ mt₀ i₀ m mm mc mt i = (i ≤ n) × Lanes carry (λ j k. at xs (first + k * 6 + j)) (at cs) (at ts) i 0 m mm mc mt
 
 abbrev μ-loop : tie.MeasureT-loop
 μ-loop xs cs ts carry first n m₀ mm₀ mc₀ mt₀ i₀ m mm mc mt i = n - i
@@ -126,8 +126,8 @@ returns : tie.Need-returns Inv-loop2 μ-loop2 Inv-loop μ-loop
 returns c = λ h p.
     let e : c .before .loop .i ≡ c .before .before .args .n = omega arith in rw (← e) (c .before .loop .inv .1 .left h (omega arith) p .sums)
 
-pub ten-sums-spec : {M : Type 1} → statement M
-ten-sums-spec =
+pub sum-lanes-spec : {M : Type 1} → statement M
+sum-lanes-spec =
     tie.close
     (tie.spec
     Inv-loop2
