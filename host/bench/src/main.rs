@@ -1,5 +1,7 @@
 //! Times the reference and the proved library side by side, in one run: interleaved repetitions,
-//! medians, and the ratio of the reference's time to the library's.
+//! the median of each one's times, and the median of the ratios of two neighbouring times, the
+//! reference's to the library's. A clock that changes during the run changes the times, and the
+//! ratios little.
 
 use std::hint::black_box;
 use std::process::ExitCode;
@@ -63,30 +65,33 @@ impl Run {
     }
 }
 
-fn median(mut times: Vec<Duration>) -> f64 {
-    times.sort();
-    times[times.len() / 2].as_secs_f64()
+fn median(values: impl Iterator<Item = f64>) -> f64 {
+    let mut values: Vec<f64> = values.collect();
+    values.sort_by(f64::total_cmp);
+    values[values.len() / 2]
 }
 
-/// Both times a run, in s, from interleaved repetitions; the outputs are compared.
-fn times(run: &Run, library: ByteRun, repetitions: usize) -> (f64, f64) {
+/// Both times of a run in s, one pair a repetition; the outputs are compared.
+fn times(run: &Run, library: ByteRun, repetitions: usize) -> Vec<(f64, f64)> {
     let mut outputs = [(); 2].map(|()| vec![0; written_len(run.calls())]);
     let [ours, theirs] = &mut outputs;
-    let (mut library_times, mut reference_times) = (Vec::new(), Vec::new());
-    for _ in 0..repetitions {
-        library_times.push(run.time(library, ours));
-        reference_times.push(run.time(byte_run, theirs));
-    }
+    let pairs = (0..repetitions)
+        .map(|_| {
+            let library = run.time(library, ours);
+            let reference = run.time(byte_run, theirs);
+            (reference.as_secs_f64(), library.as_secs_f64())
+        })
+        .collect();
     assert_eq!(ours, theirs, "the outputs differ");
-    (median(reference_times), median(library_times))
+    pairs
 }
 
-fn line(what: &str, (reference, library): (f64, f64), per: f64, unit: &str) {
+fn line(what: &str, pairs: &[(f64, f64)], per: f64, unit: &str) {
     println!(
-        "{what:<44} reference {:>9.2} {unit}, library {:>9.2} {unit}, ratio {:.2}",
-        reference * per,
-        library * per,
-        reference / library,
+        "{what:<44} reference {:>7.2} {unit}, library {:>7.2} {unit}, ratio {:.2}",
+        median(pairs.iter().map(|(reference, _)| reference * per)),
+        median(pairs.iter().map(|(_, library)| library * per)),
+        median(pairs.iter().map(|(reference, library)| reference / library)),
     );
 }
 
@@ -101,28 +106,28 @@ fn main() -> ExitCode {
         return ExitCode::from(2);
     };
     for ticks in [256, 512, 1_024, 2_048] {
-        let noisy = times(&ending(ticks, 0.1), library, 15);
+        let noisy = times(&ending(ticks, 0.1), library, 51);
         line(
             &format!("noisy run of {ticks} ticks, integrated fit"),
-            noisy,
+            &noisy,
             1e3,
             "ms",
         );
     }
     for ticks in [256, 512, 1_024, 2_048] {
-        let quiet = times(&ending(ticks, 0.0), library, 101);
+        let quiet = times(&ending(ticks, 0.0), library, 501);
         line(
             &format!("quiet run of {ticks} ticks, recorded fit"),
-            quiet,
+            &quiet,
             1e6,
             "us",
         );
     }
     let running = Run::new(200_000, 3_600.0, 0.1);
-    let step = times(&running, library, 15);
+    let step = times(&running, library, 51);
     line(
         "a step while running, of 200,000",
-        step,
+        &step,
         1e9 / running.calls() as f64,
         "ns",
     );
