@@ -1,6 +1,6 @@
 /* The rate identifier: one probe over a list of calls, as bytes.
  *
- * The library is built by `rt staticlib report` (target/staticlib/libreport.a, x86-64).
+ * The library is built by `rt staticlib byte_run` (target/staticlib/libbyte_run.a, x86-64).
  */
 #ifndef IDENTIFY_H
 #define IDENTIFY_H

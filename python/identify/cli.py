@@ -21,7 +21,7 @@ limit is 1), in any order; other columns are passed over; nan and inf are allowe
 excitation. The values of the options are defaults of this command; give those that the aircraft flew with.
 
 Exit status: 0 where a report was printed, however the probe ended; 1 where the library cannot be built or loaded; 2 for bad
-input. The first use builds the library with rt and cc; IDENTIFY_LIBRARY names a ready libreport.a or libidentify.so."""
+input. The first use builds the library with rt and cc; IDENTIFY_LIBRARY names a ready libbyte_run.a or libidentify.so."""
 
 OPTIONS_OF_RULE = {
     1: ("amplitude",),

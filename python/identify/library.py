@@ -17,8 +17,8 @@ from pathlib import Path
 
 ROOT = Path(__file__).resolve().parents[2]
 VARIABLE = "IDENTIFY_LIBRARY"
-BUILD_COMMAND = ("rt", "staticlib", "report")
-ARCHIVE = Path("target/staticlib/libreport.a")
+BUILD_COMMAND = ("rt", "staticlib", "byte_run")
+ARCHIVE = Path("target/staticlib/libbyte_run.a")
 SHARED = Path("target/identify/libidentify.so")
 UNBUILT_FOLDER = "must-fail"
 
@@ -62,7 +62,7 @@ def open_shared(path: Path) -> ctypes.CDLL:
 def built(root: Path) -> Path:
     """The shared object of the sources under `root`, built where it is missing or older than one of them."""
     if not (root / "crates").is_dir():
-        raise LibraryError(f"no crates/ in {root}: set {VARIABLE} to a ready libreport.a or libidentify.so")
+        raise LibraryError(f"no crates/ in {root}: set {VARIABLE} to a ready libbyte_run.a or libidentify.so")
     shared = root / SHARED
     if not is_current(shared, root):
         build(root, shared)

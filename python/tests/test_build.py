@@ -19,7 +19,7 @@ echo "rt: report proved"
 echo "a note"
 mkdir -p target/staticlib
 echo "unsigned identify_byte_run(void) { return 0; }" > target/stub.c
-cc -c -fPIC target/stub.c -o target/stub.o && ar rcs target/staticlib/libreport.a target/stub.o
+cc -c -fPIC target/stub.c -o target/stub.o && ar rcs target/staticlib/libbyte_run.a target/stub.o
 exit ${FAKE_RT_STATUS:-0}
 """
 
@@ -56,7 +56,7 @@ class FirstUse(unittest.TestCase):
 
     def test_builds_once_and_says_so(self):
         said = self.built()
-        self.assertIn("identify: building the proved library (rt staticlib report, then cc)", said)
+        self.assertIn("identify: building the proved library (rt staticlib byte_run, then cc)", said)
         self.assertIn("rt: report proved", said)
         self.assertNotIn("a note", said)
         self.assertTrue(library.open_shared(self.shared).identify_byte_run)
@@ -70,7 +70,7 @@ class FirstUse(unittest.TestCase):
         self.assertIn("building", self.built())
 
     def test_failed_build(self):
-        with self.assertRaisesRegex(identify.LibraryError, "`rt staticlib report` failed with status 3"):
+        with self.assertRaisesRegex(identify.LibraryError, "`rt staticlib byte_run` failed with status 3"):
             self.built(FAKE_RT_STATUS="3")
 
     def test_without_rt(self):

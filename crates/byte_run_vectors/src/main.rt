@@ -92,7 +92,7 @@ fn answers(
     if output.len() < output_len {
         return false;
     }
-    report::identify_byte_run(
+    byte_run::identify_byte_run(
         &config[..config_len],
         &calls[..calls_len],
         &mut output[..output_len],

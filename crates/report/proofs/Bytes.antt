@@ -1,18 +1,17 @@
--- A report's bytes: 36 of them, nine words one after another, with the replies of a byte run behind them.
+-- A report's bytes: 36 of them, nine words one after another.
 use Prim.Native.Nat.{ℕ, _/_, _%_, _^_, _≤_, _<_}
-use mathlib.Core.Path.{_≡_, refl, _∙_}
-use mathlib.Core.List.{List, [], _∷_, _++_, map}
+use mathlib.Core.Path.{_≡_, refl}
+use mathlib.Core.List.{List, [], _∷_, map}
 use native.Mathlib.Omega.{arith}
 use lib.Dec.{lit<}
 use lib.ListN.{length, length-append, length-map}
 use Rattle.wire.specs.Words.{bytesOf, wordBytes, wordOf, writtenAt}
 use Rattle.wire.proofs.Bytes.{length-bytes, length-words, one-word, three-words}
-use Rattle.wire.proofs.Written.{front-written, written-next, written-before, word-next}
+use Rattle.wire.proofs.Written.{written-next, word-next}
 use Rattle.account.specs.declared.IdentifyStatus.{IdentifyStatus}
 use Rattle.account.specs.declared.IdentifyStatus.the-variants.{Running, Done, Unexcited, Saturated}
 use Rattle.report.specs.declared.Report.{Report}
 use Rattle.report.specs.Report.{kindOf, floatsOf, fieldsOf, packed, reportBytes}
-use Rattle.report.specs.ByteRun.{onto}
 
 pub kind-small : (s : IdentifyStatus) → kindOf s < 4
 unfolding kindOf
@@ -46,11 +45,3 @@ report-written r l h =
     let fields = bytesOf 12 (packed 0 (fieldsOf r)) in
     let e : length fields ≡ 12 = length-bytes 12 (packed 0 (fieldsOf r)) in
     rw e at (written-next 0 fields (wordBytes (map wordOf (floatsOf (r .status)))) l (rw e (omega arith)))
-
--- a report in front of the words that are written behind it
-pub run-written : (r : Report) (ws l : List ℕ) → 36 ≤ length l → writtenAt 0 (reportBytes r) (writtenAt 36 (wordBytes ws) l) ≡ onto (reportBytes r ++ wordBytes ws) l
-unfolding onto
-run-written r ws l h =
-    let report = reportBytes r in
-    let e : length report ≡ 36 = length-report r in
-    rw e at (written-before 0 report (wordBytes ws) l (rw e h)) ∙ front-written (report ++ wordBytes ws) l

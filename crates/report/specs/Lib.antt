@@ -1,4 +1,1 @@
 pub mod Report
-pub mod ByteRun
-pub mod Calls
-pub mod Answers

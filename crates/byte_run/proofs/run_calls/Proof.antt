@@ -9,10 +9,10 @@ use Rattle.wire.specs.Words.{wordBytes, writtenAt}
 use Rattle.wire.proofs.Written.{nothing-written}
 use Rattle.account.specs.Probe.{replies}
 use Rattle.identify.specs.Seen.{seen}
-use Rattle.report.specs.ByteRun.{callsTo, callsOf}
-use Rattle.report.proofs.Runs.{words, probeAt, next-probe, word-in, long-as, calls-fit}
-use Rattle.report.proofs.run_calls.Statement.{statement}
-use Rattle.report.proofs.run_calls.Tie as tie
+use Rattle.byte_run.specs.ByteRun.{callsTo, callsOf}
+use Rattle.byte_run.proofs.Runs.{words, probeAt, next-probe, word-in, long-as, calls-fit}
+use Rattle.byte_run.proofs.run_calls.Statement.{statement}
+use Rattle.byte_run.proofs.run_calls.Tie as tie
 
 abbrev Inv-loop : tie.InvT-loop
 Inv-loop rates₀ moments₀ offsets₀ held₀ calls output₀ p₀ n k₀ rates moments offsets held output p k =

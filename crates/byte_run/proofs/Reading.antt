@@ -9,7 +9,7 @@ use lib.Dec.{eqb}
 use lib.ListN.{length, length-append}
 use Rattle.account.specs.declared.Noisy.the-variants.{Absent, Present}
 use Rattle.wire.specs.Words.{floatAt}
-use Rattle.report.specs.ByteRun.{extensionOf, callsTo, sized}
+use Rattle.byte_run.specs.ByteRun.{extensionOf, callsTo, sized}
 
 pub absent : (flag : ℕ) (bytes : List ℕ) → flag ≡ 0 → extensionOf flag bytes ≡ Absent
 unfolding extensionOf

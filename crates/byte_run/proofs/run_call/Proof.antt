@@ -6,11 +6,11 @@ use borrow.Author.Needs.{needs}
 use Rattle.wire.specs.Words.{bytesOf, writtenAt}
 use Rattle.account.specs.Probe.{Reply, Step, step}
 use Rattle.identify.specs.Seen.{seen, answered}
-use Rattle.report.specs.Answers.{replyOf}
-use Rattle.report.specs.ByteRun.{callAt, replyWord}
-use Rattle.report.proofs.Answers.{replied, small}
-use Rattle.report.proofs.run_call.Statement.{statement}
-use Rattle.report.proofs.run_call.Tie as tie
+use Rattle.byte_run.specs.Answers.{replyOf}
+use Rattle.byte_run.specs.ByteRun.{callAt, replyWord}
+use Rattle.byte_run.proofs.Answers.{replied, small}
+use Rattle.byte_run.proofs.run_call.Statement.{statement}
+use Rattle.byte_run.proofs.run_call.Tie as tie
 
 mul-call-at : tie.Need-mul-call-at
 mul-call-at c = search needs

@@ -14,7 +14,7 @@ use Rattle.identify.specs.declared.IdentifyProbe.{IdentifyProbe}
 use Rattle.identify.specs.declared.Stepped.{Stepped}
 use Rattle.identify.specs.declared.Stepped.the-variants.{Offset, Ended, Refused}
 use Rattle.identify.specs.Seen.{answered}
-use Rattle.report.specs.Answers.{replyOf}
+use Rattle.byte_run.specs.Answers.{replyOf}
 
 pub replied : (s : Stepped) (p : IdentifyProbe) (rates moments offsets : List Float) (marks : List Bool) → answered s p rates moments offsets marks .reply ≡ replyOf s
 unfolding answered replyOf

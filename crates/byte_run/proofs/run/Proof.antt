@@ -5,11 +5,11 @@ use native.Mathlib.Omega.{arith}
 use borrow.Author.Needs.{needs}
 use lib.ListN.{length}
 use Rattle.wire.proofs.Written.{length-written}
 use Rattle.report.specs.Report.{reportBytes}
 use Rattle.report.proofs.Bytes.{length-report}
-use Rattle.report.proofs.Runs.{words-long-as, whole-run}
-use Rattle.report.proofs.run.Statement.{statement}
-use Rattle.report.proofs.run.Tie as tie
+use Rattle.byte_run.proofs.Runs.{words-long-as, whole-run}
+use Rattle.byte_run.proofs.run.Statement.{statement}
+use Rattle.byte_run.proofs.run.Tie as tie
 
 run-calls-requires : tie.Need-run-calls-requires
 run-calls-requires c κs = search needs

@@ -5,11 +5,11 @@ use borrow.Author.Needs.{needs}
 use Rattle.account.specs.Rules.{broken}
 use Rattle.identify.specs.Seen.{openedBy}
 use Rattle.identify.specs.declared.Opened.the-variants.{Probe, Refused}
-use Rattle.report.specs.ByteRun.{Ran, configOf}
-use Rattle.report.proofs.Reading.{config-size, output-size}
-use Rattle.report.proofs.ByteRuns.{not-sized, run-refused, run-started}
-use Rattle.report.proofs.identify_byte_run.Statement.{statement}
-use Rattle.report.proofs.identify_byte_run.Tie as tie
+use Rattle.byte_run.specs.ByteRun.{Ran, configOf}
+use Rattle.byte_run.proofs.Reading.{config-size, output-size}
+use Rattle.byte_run.proofs.ByteRuns.{not-sized, run-refused, run-started}
+use Rattle.byte_run.proofs.identify_byte_run.Statement.{statement}
+use Rattle.byte_run.proofs.identify_byte_run.Tie as tie
 
 is-sized-requires : tie.Need-is-sized-requires
 is-sized-requires c κs = search needs

@@ -1,8 +1,8 @@
 -- Three reads, a field each.
 use borrow.Author.Needs.{needs}
-use Rattle.report.specs.ByteRun.{callAt}
-use Rattle.report.proofs.call_at.Statement.{statement}
-use Rattle.report.proofs.call_at.Tie as tie
+use Rattle.byte_run.specs.ByteRun.{callAt}
+use Rattle.byte_run.proofs.call_at.Statement.{statement}
+use Rattle.byte_run.proofs.call_at.Tie as tie
 
 read-float-requires : tie.Need-read-float-requires
 read-float-requires c κs = search needs

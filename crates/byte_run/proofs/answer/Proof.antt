@@ -3,10 +3,10 @@ use native.Mathlib.Omega.{arith}
 use borrow.Author.Needs.{needs}
 use Rattle.account.specs.Probe.{number}
 use Rattle.identify.specs.Seen.{answered}
-use Rattle.report.specs.Answers.{replyOf}
-use Rattle.report.specs.ByteRun.{replyWord}
-use Rattle.report.proofs.answer.Statement.{statement}
-use Rattle.report.proofs.answer.Tie as tie
+use Rattle.byte_run.specs.Answers.{replyOf}
+use Rattle.byte_run.specs.ByteRun.{replyWord}
+use Rattle.byte_run.proofs.answer.Statement.{statement}
+use Rattle.byte_run.proofs.answer.Tie as tie
 
 enum-known-stepped : tie.Need-enum-known-stepped
 enum-known-stepped c = search needs

@@ -1,9 +1,9 @@
 -- The three tests of `sized`.
 use mathlib.Core.Path.{refl}
 use borrow.Author.Needs.{needs}
-use Rattle.report.specs.ByteRun.{sized}
-use Rattle.report.proofs.is_sized.Statement.{statement}
-use Rattle.report.proofs.is_sized.Tie as tie
+use Rattle.byte_run.specs.ByteRun.{sized}
+use Rattle.byte_run.proofs.is_sized.Statement.{statement}
+use Rattle.byte_run.proofs.is_sized.Tie as tie
 
 mul-result : tie.Need-mul-result
 mul-result c = search needs

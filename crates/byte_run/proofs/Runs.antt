@@ -9,7 +9,7 @@ use lib.ListN.{length, length-map}
 use lib.Ieee.{Float}
 use Rattle.float.specs.Values.{zero32}
 use Rattle.wire.specs.Words.{bytesOf, wordBytes, writtenAt}
-use Rattle.wire.proofs.Written.{word-next, length-words-written}
+use Rattle.wire.proofs.Written.{front-written, written-before, word-next, length-words-written}
 use Rattle.window.specs.Samples.{noSamples}
 use Rattle.window.specs.Arrays.{storedOf, samplesIn}
 use Rattle.account.specs.declared.IdentifyConfig.{IdentifyConfig}
@@ -17,12 +17,12 @@ use Rattle.account.specs.Probe.{Call, Probe, Reply, fresh, step, after, replies
 use Rattle.identify.specs.declared.IdentifyProbe.{IdentifyProbe}
 use Rattle.identify.specs.Seen.{seen, freshProbe}
 use Rattle.account.specs.Account.{opened, account}
 use Rattle.report.specs.declared.Report.{Report}
 use Rattle.report.specs.Report.{ofProbe, ofAccount, reportBytes}
-use Rattle.report.specs.ByteRun.{callAt, callsTo, callsOf, replyWord, written, onto}
-use Rattle.report.proofs.Bytes.{run-written}
-use Rattle.report.proofs.Reading.{length-calls}
+use Rattle.byte_run.specs.ByteRun.{callAt, callsTo, callsOf, replyWord, written, onto}
+use Rattle.report.proofs.Bytes.{length-report}
+use Rattle.byte_run.proofs.Reading.{length-calls}
 use Rattle.report.proofs.Reported.{reported}
 
 -- a probe just made, whatever the arrays hold
 none-stored : (d : Float) → storedOf (record { len = 0; «duration_s» = d }) ≡ 0
@@ -74,6 +74,14 @@ module _ (p : Probe) (bytes : List ℕ) where
 -- 12 bytes a call
 pub calls-fit : (n k : ℕ) → k < n / 12 → 12 * k + 12 ≤ n
 calls-fit n k h = omega (arith, div-add-mod' n 12)
+
+-- a report in front of the words that are written behind it
+run-written : (r : Report) (ws l : List ℕ) → 36 ≤ length l → writtenAt 0 (reportBytes r) (writtenAt 36 (wordBytes ws) l) ≡ onto (reportBytes r ++ wordBytes ws) l
+unfolding onto
+run-written r ws l h =
+    let report = reportBytes r in
+    let e : length report ≡ 36 = length-report r in
+    rw e at (written-before 0 report (wordBytes ws) l (rw e h)) ∙ front-written (report ++ wordBytes ws) l
 
 -- the report over the words: what a run writes
 pub written-is : (c : IdentifyConfig) (bytes l : List ℕ) → 36 ≤ length l

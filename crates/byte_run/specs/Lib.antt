@@ -1,0 +1,3 @@
+pub mod ByteRun
+pub mod Calls
+pub mod Answers
