@@ -1,5 +1,3 @@
-pub mod Limits
-pub mod Rules
 pub mod Opening
 pub mod Closing
 pub mod Ticking

@@ -12,10 +12,11 @@ use Rattle.account.specs.declared.IdentifyStatus.{IdentifyStatus}
 use Rattle.account.specs.declared.IdentifyStatus.the-variants.{Running, Done, Unexcited, Saturated}
 use Rattle.account.specs.Rules.{positive, overrun, refusal}
 use Rattle.account.specs.Probe.{Call, Step, offset, refused, clock, tick, answer, step}
-use Rattle.identify.specs.declared.Clock.{Clock}
-use Rattle.identify.specs.declared.Clock.the-variants.{Stopped, At}
+use Rattle.rules.specs.declared.Clock.{Clock}
+use Rattle.rules.specs.declared.Clock.the-variants.{Stopped, At}
 use Rattle.identify.specs.declared.IdentifyProbe.{IdentifyProbe}
-use Rattle.identify.specs.Seen.{seen, clockOf, timeOf, afterCall}
+use Rattle.rules.specs.Clock.{clockOf, timeOf}
+use Rattle.identify.specs.Seen.{seen, afterCall}
 
 clocks : (s : IdentifyStatus) → clock s ≡ timeOf (clockOf s)
 unfolding clock clockOf

@@ -16,9 +16,10 @@ use Rattle.account.specs.declared.IdentifyStatus.{IdentifyStatus}
 use Rattle.account.specs.declared.IdentifyStatus.the-variants.{Running, Done, Unexcited, Saturated}
 use Rattle.account.specs.Rules.{broken, refusal}
 use Rattle.account.specs.Probe.{Probe, Standing, Closing, Step, Reply, offset, refused}
+use Rattle.rules.specs.declared.Clock.{Clock}
+use Rattle.rules.specs.declared.Clock.the-variants as clock
+use Rattle.rules.specs.Clock.{clockOf, timeOf}
 use Rattle.identify.specs.declared.IdentifyProbe.{IdentifyProbe}
-use Rattle.identify.specs.declared.Clock.{Clock}
-use Rattle.identify.specs.declared.Clock.the-variants as clock
 use Rattle.identify.specs.declared.Opened.{Opened}
 use Rattle.identify.specs.declared.Opened.the-variants as opened
 use Rattle.identify.specs.declared.Stepped.{Stepped}
@@ -35,17 +36,6 @@ seen p rates moments offsets marks = record {
   sweep = p .sweep;
   standing = record { status = p .status; fits = p .«gain_fits» };
 }
-
--- the elapsed time, while the probe runs
-unfoldable pub clockOf : IdentifyStatus → Clock
-clockOf (Running e) = clock.At e
-clockOf (Done m) = clock.Stopped
-clockOf Unexcited = clock.Stopped
-clockOf Saturated = clock.Stopped
-
-abbrev pub timeOf : Clock → Option Float
-timeOf clock.Stopped = none
-timeOf (clock.At e) = some e
 
 -- a probe just made, with nothing stored
 unfoldable pub freshProbe : IdentifyConfig → IdentifyProbe

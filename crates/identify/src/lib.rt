@@ -1,11 +1,9 @@
 // The probe: one axis, from its configuration to its status.
 ghost use mathlib.Core.Path.{_≡_};
 ghost use Prim.Native.Nat.{_<_};
-ghost use mathlib.Core.Bool.{Bool, not, _||_};
-ghost use mathlib.Core.Option.{some};
+ghost use mathlib.Core.Bool.{Bool};
 ghost use lib.Ieee.{Float, lt};
-ghost use Rattle.float.specs.Values.{finite};
-ghost use Rattle.account.specs.Rules.{positive, nonZero, tooLong, broken, overrun, refusal};
+ghost use Rattle.account.specs.Rules.{broken};
 ghost use mathlib.Core.List.{List};
 ghost use lib.ListN.{take, length};
 ghost use Rattle.window.specs.Arrays.{storedOf, samplesIn, holdAt, putAt};
@@ -14,12 +12,13 @@ ghost use Rattle.recorded.specs.declared.Classified.the-variants.{Integrated};
 ghost use Rattle.account.specs.Probe.{takes, statusOf, finished, stands, close as closeOf, tick as tickOf, step as stepOf};
 ghost use Rattle.account.specs.declared.IdentifyStatus.the-variants.{Running};
 ghost use Rattle.recorded.specs.Classify.{classify as classOf};
-ghost use Rattle.identify.specs.Seen.{clockOf, timeOf, openedBy, standingOf, closingOf, seen, answered, offsetOf, valuesAfter, offsetsAfter, marksAfter};
+ghost use Rattle.identify.specs.Seen.{openedBy, standingOf, closingOf, seen, answered, offsetOf, valuesAfter, offsetsAfter, marksAfter};
 use account::IdentifyConfig;
 use account::IdentifyStatus;
 use account::Noisy;
 use integrated::Fitted;
 use recorded::Classified;
+use rules::Clock;
 use sweep::SquareSweep;
 use window::Window;
 
@@ -49,12 +48,6 @@ pub enum Stepped {
     Refused(u32),
 }
 
-// The elapsed time of a probe that runs.
-pub enum Clock {
-    Stopped,
-    At(f32),
-}
-
 // A status, and the gain fits made for it.
 pub struct Stand {
     pub status: IdentifyStatus,
@@ -68,108 +61,6 @@ pub struct Ending {
     pub sweep: SquareSweep,
     pub status: IdentifyStatus,
     pub gain_fits: u32,
-}
-
-const LONGEST_S: f32 = 3600.0;
-
-const LATEST_S: f32 = 4096.0;
-
-const MOST_TICKS: u32 = 16_777_216;
-
-// ---- the rules
-
-fn is_positive(x: f32) -> bool
-    ensures { λ r. ⌜ r ≡ positive x ⌝ }
-{
-    float::is_finite(x) & (x > 0.0)
-}
-
-fn is_bad_amplitude(x: f32) -> bool
-    ensures { λ r. ⌜ r ≡ not (nonZero x) ⌝ }
-{
-    !(float::is_finite(x) & !(x == 0.0))
-}
-
-fn is_bad_duration(x: f32) -> bool
-    ensures { λ r. ⌜ r ≡ (not (positive x) || tooLong x) ⌝ }
-{
-    !is_positive(x) | (x > LONGEST_S)
-}
-
-fn is_bad_time(x: f32) -> bool
-    ensures { λ r. ⌜ r ≡ not (positive x) ⌝ }
-{
-    !is_positive(x)
-}
-
-fn is_bad_extension(x: f32, duration_s: f32) -> bool
-    ensures { λ r. ⌜ r ≡ (not (finite x) || lt x «duration_s» || tooLong x) ⌝ }
-{
-    !float::is_finite(x) | (x < duration_s) | (x > LONGEST_S)
-}
-
-// The number of the first of the rules 1 to 5 that a configuration breaks, 0 if none.
-pub fn validate(config: IdentifyConfig) -> u32
-    ensures { λ r. ⌜ r ≡ broken config ⌝ }
-{
-    if is_bad_amplitude(config.amplitude) {
-        return 1;
-    }
-    if is_bad_duration(config.duration_s) {
-        return 2;
-    }
-    if is_bad_time(config.washout_tc_s) {
-        return 3;
-    }
-    let noisy = config.noisy;
-    let Noisy::Present(extension) = noisy else {
-        return 0;
-    };
-    if is_bad_amplitude(extension.amplitude) {
-        return 4;
-    }
-    if is_bad_extension(extension.duration_s, config.duration_s) {
-        return 5;
-    }
-    0
-}
-
-// The number of the first of the rules 7 and 8 that a call of a running probe breaks, 0 if none.
-fn overruns(elapsed_s: f32, ticks: u32, dt: f32) -> u32
-    ensures { λ r. ⌜ r ≡ overrun (some «elapsed_s») ticks dt ⌝ }
-{
-    if elapsed_s + dt > LATEST_S {
-        return 7;
-    }
-    if ticks >= MOST_TICKS {
-        return 8;
-    }
-    0
-}
-
-// The elapsed time of a status that runs.
-fn clock_of(status: IdentifyStatus) -> Clock
-    ensures { λ r. ⌜ r ≡ clockOf status ⌝ }
-{
-    match status {
-        IdentifyStatus::Running(elapsed_s) => Clock::At(elapsed_s),
-        IdentifyStatus::Done(_) => Clock::Stopped,
-        IdentifyStatus::Unexcited => Clock::Stopped,
-        IdentifyStatus::Saturated => Clock::Stopped,
-    }
-}
-
-// The number of the first of the rules 6 to 8 that a call breaks, 0 if none.
-fn refuses(clock: Clock, ticks: u32, dt: f32) -> u32
-    ensures { λ r. ⌜ r ≡ refusal (timeOf clock) ticks dt ⌝ }
-{
-    if is_bad_time(dt) {
-        return 6;
-    }
-    let Clock::At(elapsed_s) = clock else {
-        return 0;
-    };
-    overruns(elapsed_s, ticks, dt)
 }
 
 // ---- the end of a tick
@@ -380,7 +271,7 @@ impl IdentifyProbe {
     pub fn new(config: IdentifyConfig) -> Opened
         ensures { λ r. ⌜ r ≡ openedBy (broken config) config ⌝ }
     {
-        let number = validate(config);
+        let number = rules::validate(config);
         if number != 0 {
             return Opened::Refused(number);
         }
@@ -422,8 +313,8 @@ impl IdentifyProbe {
         ensures held { λ r. ⌜ now (held .exit) ≡ marksAfter self dt (now (held .entry)) rate moment ⌝ }
     {
         let status = self.status;
-        let clock = clock_of(status);
-        let number = refuses(clock, self.ticks, dt);
+        let clock = rules::clock_of(status);
+        let number = rules::refuses(clock, self.ticks, dt);
         if number != 0 {
             return Stepped::Refused(number);
         }

@@ -2,8 +2,9 @@
 use mathlib.Core.Path.{_≡_, sym, _∙_}
 use borrow.Author.Needs.{needs}
 use Rattle.account.specs.Rules.{refusal}
-use Rattle.identify.specs.declared.Clock.the-variants.{Stopped, At}
-use Rattle.identify.specs.Seen.{clockOf, timeOf, answered, valuesAfter, offsetsAfter, marksAfter}
+use Rattle.rules.specs.declared.Clock.the-variants.{Stopped, At}
+use Rattle.rules.specs.Clock.{clockOf, timeOf}
+use Rattle.identify.specs.Seen.{answered, valuesAfter, offsetsAfter, marksAfter}
 use Rattle.identify.proofs.Stepping.{few-ticks, turned-back, stopped, running, kept-back, kept-stopped, kept-running}
 use Rattle.identify.proofs.IdentifyProbe.step.Statement.{statement}
 use Rattle.identify.proofs.IdentifyProbe.step.Tie as tie

@@ -2,8 +2,8 @@ use borrow.Author.Needs.{needs}
 use native.Mathlib.Omega.{arith}
 use Rattle.account.specs.Rules.{positive}
 use borrow.Author.Needs.{needs}
-use Rattle.identify.proofs.is_positive.Statement.{statement}
-use Rattle.identify.proofs.is_positive.Tie as tie
+use Rattle.rules.proofs.is_positive.Statement.{statement}
+use Rattle.rules.proofs.is_positive.Tie as tie
 
 is-finite-requires : tie.Need-is-finite-requires
 is-finite-requires c κs = search needs

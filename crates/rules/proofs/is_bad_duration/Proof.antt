@@ -1,9 +1,9 @@
 -- `is_bad_duration` makes the two tests of rule 2.
 use borrow.Author.Needs.{needs}
 use Rattle.account.specs.Rules.{tooLong}
-use Rattle.identify.proofs.Limits.{longest}
-use Rattle.identify.proofs.is_bad_duration.Statement.{statement}
-use Rattle.identify.proofs.is_bad_duration.Tie as tie
+use Rattle.rules.proofs.Limits.{longest}
+use Rattle.rules.proofs.is_bad_duration.Statement.{statement}
+use Rattle.rules.proofs.is_bad_duration.Tie as tie
 
 is-positive-requires : tie.Need-is-positive-requires
 is-positive-requires c κs = search needs

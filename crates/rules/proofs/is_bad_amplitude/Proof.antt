@@ -2,8 +2,8 @@ use borrow.Author.Needs.{needs}
 use native.Mathlib.Omega.{arith}
 use Rattle.account.specs.Rules.{nonZero}
 use borrow.Author.Needs.{needs}
-use Rattle.identify.proofs.is_bad_amplitude.Statement.{statement}
-use Rattle.identify.proofs.is_bad_amplitude.Tie as tie
+use Rattle.rules.proofs.is_bad_amplitude.Statement.{statement}
+use Rattle.rules.proofs.is_bad_amplitude.Tie as tie
 
 is-finite-requires : tie.Need-is-finite-requires
 is-finite-requires c κs = search needs

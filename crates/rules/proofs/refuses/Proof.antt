@@ -3,10 +3,10 @@ use mathlib.Core.Path.{sym, _∙_}
 use mathlib.Core.Option.{none, some}
 use borrow.Author.Needs.{needs}
 use Rattle.account.specs.Rules.{overrun}
-use Rattle.identify.specs.Seen.{timeOf}
-use Rattle.identify.proofs.Rules.{rule-6, after-6}
-use Rattle.identify.proofs.refuses.Statement.{statement}
-use Rattle.identify.proofs.refuses.Tie as tie
+use Rattle.rules.specs.Clock.{timeOf}
+use Rattle.rules.proofs.Rules.{rule-6, after-6}
+use Rattle.rules.proofs.refuses.Statement.{statement}
+use Rattle.rules.proofs.refuses.Tie as tie
 
 is-bad-time-requires : tie.Need-is-bad-time-requires
 is-bad-time-requires c κs = search needs

@@ -1,9 +1,9 @@
 -- `clock_of` is `clockOf`, an arm each.
 use mathlib.Core.Path.{sym, ap}
 use borrow.Author.Needs.{needs}
-use Rattle.identify.specs.Seen.{clockOf}
-use Rattle.identify.proofs.clock_of.Statement.{statement}
-use Rattle.identify.proofs.clock_of.Tie as tie
+use Rattle.rules.specs.Clock.{clockOf}
+use Rattle.rules.proofs.clock_of.Statement.{statement}
+use Rattle.rules.proofs.clock_of.Tie as tie
 
 enum-known-status : tie.Need-enum-known-status
 enum-known-status c = search needs

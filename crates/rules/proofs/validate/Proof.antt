@@ -1,9 +1,9 @@
 -- `validate` makes the tests of rules 1 to 5 in their order; e1 to e4 are the places after a test that passed.
 use mathlib.Core.Path.{sym, _∙_}
 use borrow.Author.Needs.{needs}
-use Rattle.identify.proofs.Rules.{rule-1, rule-2, rule-3, no-extension, rule-4, rule-5, no-rule}
-use Rattle.identify.proofs.validate.Statement.{statement}
-use Rattle.identify.proofs.validate.Tie as tie
+use Rattle.rules.proofs.Rules.{rule-1, rule-2, rule-3, no-extension, rule-4, rule-5, no-rule}
+use Rattle.rules.proofs.validate.Statement.{statement}
+use Rattle.rules.proofs.validate.Tie as tie
 
 is-bad-amplitude-requires : tie.Need-is-bad-amplitude-requires
 is-bad-amplitude-requires c κs = search needs

@@ -1,9 +1,9 @@
 -- `is_bad_extension` makes the three tests of rule 5.
 use borrow.Author.Needs.{needs}
 use Rattle.account.specs.Rules.{tooLong}
-use Rattle.identify.proofs.Limits.{longest}
-use Rattle.identify.proofs.is_bad_extension.Statement.{statement}
-use Rattle.identify.proofs.is_bad_extension.Tie as tie
+use Rattle.rules.proofs.Limits.{longest}
+use Rattle.rules.proofs.is_bad_extension.Statement.{statement}
+use Rattle.rules.proofs.is_bad_extension.Tie as tie
 
 is-finite-requires : tie.Need-is-finite-requires
 is-finite-requires c κs = search needs

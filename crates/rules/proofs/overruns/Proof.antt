@@ -1,9 +1,9 @@
 -- `overruns` makes the tests of rules 7 and 8 in their order.
 use borrow.Author.Tests.{le-leb, lt-leb}
 use Rattle.account.specs.Rules.{overrun}
-use Rattle.identify.proofs.Limits.{latest}
-use Rattle.identify.proofs.overruns.Statement.{statement}
-use Rattle.identify.proofs.overruns.Tie as tie
+use Rattle.rules.proofs.Limits.{latest}
+use Rattle.rules.proofs.overruns.Statement.{statement}
+use Rattle.rules.proofs.overruns.Tie as tie
 
 returns : tie.Need-returns
 unfolding overrun

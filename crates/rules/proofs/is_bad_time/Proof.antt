@@ -1,8 +1,8 @@
 use borrow.Author.Needs.{needs}
 use native.Mathlib.Omega.{arith}
 use borrow.Author.Needs.{needs}
-use Rattle.identify.proofs.is_bad_time.Statement.{statement}
-use Rattle.identify.proofs.is_bad_time.Tie as tie
+use Rattle.rules.proofs.is_bad_time.Statement.{statement}
+use Rattle.rules.proofs.is_bad_time.Tie as tie
 
 is-positive-requires : tie.Need-is-positive-requires
 is-positive-requires c κs = search needs
