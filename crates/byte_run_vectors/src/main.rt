@@ -1,8 +1,9 @@
 // Replays whole byte runs and prints how many of each file agree in result and in every byte of the output.
 // runs.bin holds the reference's answers, written by the command in host/README.md with seed 1; examples.bin the worked examples of
 // docs/01-scope.md, written by host/make_examples.py. host/README.md has the layout of both, "runs".
-use libc::STDOUT_FILENO;
-ghost use Prim.Native.Nat.{_≤_};
+use vectors::Read;
+use vectors::Tally;
+use vectors::next_word;
 
 // More runs than any file has.
 const MOST: u64 = 1000;
@@ -13,37 +14,6 @@ const CONFIG: usize = 32;
 const CALLS: usize = 26832;
 
 const OUTPUT: usize = 8980;
-
-enum Read {
-    End,
-    Word(u32),
-}
-
-fn wide(b: u8) -> u32 {
-    b as u32
-}
-
-fn read_word(fd: i32) -> Read {
-    let mut b = [0u8; 4];
-    if io::read_full(fd, &mut b) < 4 {
-        return Read::End;
-    }
-    Read::Word((wide(b[0]) << 24) | (wide(b[1]) << 16) | (wide(b[2]) << 8) | wide(b[3]))
-}
-
-// The next word, or 0 at the end.
-fn word(fd: i32) -> u32 {
-    match read_word(fd) {
-        Read::End => 0,
-        Read::Word(w) => w,
-    }
-}
-
-fn flag(b: bool) -> u64
-    ensures { λ r. ⌜ r ≤ 1 ⌝ }
-{
-    if b { 1 } else { 0 }
-}
 
 // An output before a run: byte k is 31·k + 165 mod 256.
 fn fill(output: &mut [u8]) {
@@ -111,13 +81,13 @@ fn agrees_within(
     expected: &mut [u8],
 ) -> bool {
     let config_len = first as usize;
-    let calls_len = word(fd) as usize;
-    let output_len = word(fd) as usize;
+    let calls_len = next_word(fd) as usize;
+    let output_len = next_word(fd) as usize;
     fill(output);
     fill(expected);
     let has_config = read_part(fd, config, config_len);
     let has_calls = read_part(fd, calls, calls_len);
-    let result = word(fd);
+    let result = next_word(fd);
     let has_output = read_part(fd, expected, output_len);
     let answered = answers(
         result,
@@ -147,27 +117,16 @@ fn agrees(fd: i32, first: u32) -> bool {
 }
 
 fn replay(name: &[u8], path: &[u8]) {
-    let fd = os::open_read(path);
-    if fd < 0 {
-        os::fail(path);
-        return;
-    }
-    let mut runs: u64 = 0;
-    let mut agree: u64 = 0;
+    let fd = vectors::open(path);
+    let mut tally = Tally::new();
     for _ in 0..MOST {
-        let Read::Word(first) = read_word(fd) else {
+        let Read::Word(first) = vectors::read_word(fd) else {
             break;
         };
-        runs += 1;
-        agree += flag(agrees(fd, first));
+        tally = tally.with(agrees(fd, first));
     }
     libc::close(fd);
-    io::write_all(STDOUT_FILENO, name);
-    io::write_all(STDOUT_FILENO, b": ");
-    io::print_decimal(STDOUT_FILENO, agree);
-    io::write_all(STDOUT_FILENO, b" of ");
-    io::print_decimal(STDOUT_FILENO, runs);
-    io::write_all(STDOUT_FILENO, b" agree\n");
+    tally.print(name);
 }
 
 fn main() {

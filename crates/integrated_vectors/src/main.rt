@@ -4,7 +4,11 @@ use delay::RateModel;
 use gain::GainFit;
 use integrated::Fitted;
 use integrated::Kept;
-use libc::STDOUT_FILENO;
+use vectors::Tally;
+use vectors::double_at;
+use vectors::float_at;
+use vectors::is_at;
+use vectors::word_at;
 ghost use Prim.Native.Nat.{_≤_, _<_};
 
 enum Kind {
@@ -14,54 +18,11 @@ enum Kind {
     Integrated,
 }
 
-struct Tally {
-    records: u64,
-    agree: u64,
-}
-
-fn wide(b: u8) -> u32 {
-    b as u32
-}
-
-// The word at a place; 0 where fewer than four bytes are left.
-fn word(s: &[u8], at: usize) -> u32 {
-    if s.len() < 4 {
-        return 0;
-    }
-    if s.len() - 4 < at {
-        return 0;
-    }
-    (wide(s[at]) << 24) | (wide(s[at + 1]) << 16) | (wide(s[at + 2]) << 8) | wide(s[at + 3])
-}
-
-fn float_at(s: &[u8], at: usize) -> f32 {
-    float::from_word(word(s, at))
-}
-
-// Whether a float is the one at a place, bit for bit.
-fn is_at(x: f32, s: &[u8], at: usize) -> bool {
-    float::to_word(x) == word(s, at)
-}
-
-// The f64 of a bit pattern; every NaN pattern gives NaN.
-fn double(bits: u64) -> f64 {
-    if 0x7ff0_0000_0000_0000 < bits % 0x8000_0000_0000_0000 {
-        return 0.0 / 0.0;
-    }
-    f64::from_bits(bits)
-}
-
-fn double_at(s: &[u8], at: usize) -> f64
-    requires { ⌜ at ≤ 1000 ⌝ }
-{
-    double(((word(s, at) as u64) << 32) | (word(s, at + 4) as u64))
-}
-
 // The count that a record of a window begins with, at most what a window holds.
 fn count(s: &[u8]) -> usize
     ensures { λ r. ⌜ r ≤ 2048 ⌝ }
 {
-    let n = word(s, 0);
+    let n = word_at(s, 0);
     if n < 2048 { n as usize } else { 2048 }
 }
 
@@ -98,13 +59,13 @@ fn gain_agrees(s: &[u8]) -> bool {
         &lagged,
         n,
         double_at(s, 8),
-        word(s, 4) as usize,
+        word_at(s, 4) as usize,
         0.0,
     );
     let end = 16 + n * 8;
     match fit {
-        GainFit::Nothing => word(s, end) == 0,
-        GainFit::Fit(gain, residual) => (word(s, end) == 1)
+        GainFit::Nothing => word_at(s, end) == 0,
+        GainFit::Fit(gain, residual) => (word_at(s, end) == 1)
             & is_at(gain, s, end + 4)
             & is_at(residual, s, end + 8),
     }
@@ -115,8 +76,8 @@ fn is_kept(kept: Kept, s: &[u8], at: usize) -> bool
     requires { ⌜ at ≤ 20000 ⌝ }
 {
     match kept {
-        Kept::Empty => word(s, at) == 0,
-        Kept::Best(b) => (word(s, at) == 1)
+        Kept::Empty => word_at(s, at) == 0,
+        Kept::Best(b) => (word_at(s, at) == 1)
             & is_at(b.pole, s, at + 4)
             & is_at(b.low, s, at + 8)
             & is_at(b.high, s, at + 12)
@@ -151,9 +112,9 @@ fn is_model(m: RateModel, s: &[u8], at: usize) -> bool
     requires { ⌜ at ≤ 20000 ⌝ }
 {
     let d = m.delay;
-    (word(s, at) == 1)
-        & ((d.half_ticks as u64) == (word(s, at + 4) as u64) + 2)
-        & (d.whole_ticks() == word(s, at + 8))
+    (word_at(s, at) == 1)
+        & ((d.half_ticks as u64) == (word_at(s, at + 4) as u64) + 2)
+        & (d.whole_ticks() == word_at(s, at + 8))
         & is_at(m.r1, s, at + 12)
         & is_at(m.r2, s, at + 16)
         & is_at(m.m0, s, at + 20)
@@ -171,12 +132,12 @@ fn integrated_agrees(s: &[u8]) -> bool {
     load(s, 12, n, &mut moments);
     let fit = integrated::fit_integrated(&rates, &moments, n, float_at(s, 4));
     let end = 8 + n * 8;
-    if fit.gain_fits != word(s, end + 36) {
+    if fit.gain_fits != word_at(s, end + 36) {
         return false;
     }
     let fitted = fit.fitted;
     match fitted {
-        Fitted::Nothing => word(s, end) == 0,
+        Fitted::Nothing => word_at(s, end) == 0,
         Fitted::Model(m) => is_model(m, s, end),
     }
 }
@@ -201,46 +162,26 @@ fn agrees(k: Kind, s: &[u8]) -> bool {
     }
 }
 
-fn flag(b: bool) -> u64
-    ensures { λ r. ⌜ r ≤ 1 ⌝ }
-{
-    if b { 1 } else { 0 }
-}
-
 fn replayed(k: Kind, s: &[u8]) -> Tally {
     let mut at = 0;
-    let mut records: u64 = 0;
-    let mut agree: u64 = 0;
+    let mut tally = Tally::new();
     while at < s.len() {
         let rest = &s[at..];
         let size = record_size(k, rest);
         if s.len() - at < size {
-            return Tally { records, agree };
+            return tally;
         }
-        records += 1;
-        agree += flag(agrees(k, rest));
+        tally = tally.with(agrees(k, rest));
         at += size;
     }
-    Tally { records, agree }
+    tally
 }
 
 // A file holds at most 196,608 bytes.
 fn replay(k: Kind, name: &[u8], path: &[u8]) {
-    let fd = os::open_read(path);
-    if fd < 0 {
-        os::fail(path);
-        return;
-    }
     let mut buffer = [0u8; 196608];
-    let n = io::read_full(fd, &mut buffer);
-    libc::close(fd);
-    let t = replayed(k, &buffer[..n]);
-    io::write_all(STDOUT_FILENO, name);
-    io::write_all(STDOUT_FILENO, b": ");
-    io::print_decimal(STDOUT_FILENO, t.agree);
-    io::write_all(STDOUT_FILENO, b" of ");
-    io::print_decimal(STDOUT_FILENO, t.records);
-    io::write_all(STDOUT_FILENO, b" agree\n");
+    let n = vectors::read_file(path, &mut buffer);
+    replayed(k, &buffer[..n]).print(name);
 }
 
 fn main() {

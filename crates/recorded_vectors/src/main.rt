@@ -5,60 +5,23 @@ use delay::Position;
 use least_squares::Solution;
 use least_squares::Solved;
 use least_squares::Sums;
-use libc::STDOUT_FILENO;
 use recorded::Classified;
 use recorded::RecordedFit;
+use vectors::Read;
+use vectors::Tally;
+use vectors::next_float;
+use vectors::next_word;
+use vectors::same;
 ghost use Prim.Native.Nat.{_≤_};
 
 // More records than any file has.
 const MOST: u64 = 10000;
-
-enum Read {
-    End,
-    Word(u32),
-}
 
 enum File {
     Ties,
     Solve,
     Sums,
     Recorded,
-}
-
-// ---- words
-
-fn wide(b: u8) -> u32 {
-    b as u32
-}
-
-fn read_word(fd: i32) -> Read {
-    let mut b = [0u8; 4];
-    if io::read_full(fd, &mut b) < 4 {
-        return Read::End;
-    }
-    Read::Word((wide(b[0]) << 24) | (wide(b[1]) << 16) | (wide(b[2]) << 8) | wide(b[3]))
-}
-
-// The next word, or 0 at the end.
-fn word(fd: i32) -> u32 {
-    match read_word(fd) {
-        Read::End => 0,
-        Read::Word(w) => w,
-    }
-}
-
-fn number(fd: i32) -> f32 {
-    float::from_word(word(fd))
-}
-
-fn same(a: f32, b: f32) -> bool {
-    float::to_word(a) == float::to_word(b)
-}
-
-fn flag(b: bool) -> u64
-    ensures { λ r. ⌜ r ≤ 1 ⌝ }
-{
-    if b { 1 } else { 0 }
 }
 
 // ---- the tie rule
@@ -77,16 +40,16 @@ fn entry(mask: u32, k: u32, effect: f32, residual: f32) -> Entry {
 // A list has 21 entries, of which the rule reads 20.
 fn tie_agrees(fd: i32, first: u32) -> bool {
     let share = float::from_word(first);
-    let mask = word(fd);
+    let mask = next_word(fd);
     let mut entries = [Entry::Missing; 20];
     for k in 0..20 {
-        let effect = number(fd);
-        let residual = number(fd);
+        let effect = next_float(fd);
+        let residual = next_float(fd);
         entries[k] = entry(mask, k as u32, effect, residual);
     }
-    number(fd);
-    number(fd);
-    let expected = word(fd) as usize;
+    next_float(fd);
+    next_float(fd);
+    let expected = next_word(fd) as usize;
     match delay::delay_to_fit(entries, share) {
         Position::Nowhere => expected == 0,
         Position::At(p) => expected == p,
@@ -100,16 +63,16 @@ fn sums(fd: i32, first: u32) -> Sums {
     let mut normal = [0.0f32; 36];
     normal[0] = float::from_word(first);
     for n in 1..36 {
-        normal[n] = number(fd);
+        normal[n] = next_float(fd);
     }
     let mut projected = [0.0f32; 6];
     for i in 0..6 {
-        projected[i] = number(fd);
+        projected[i] = next_float(fd);
     }
     Sums {
         normal: normal,
         projected: projected,
-        target_squared: number(fd),
+        target_squared: next_float(fd),
     }
 }
 
@@ -126,15 +89,15 @@ fn same_sums(a: Sums, b: Sums) -> bool {
 
 fn solve_agrees(fd: i32, first: u32) -> bool {
     let solved = sums(fd, first).solve();
-    let fits = word(fd);
+    let fits = next_word(fd);
     let expected = Solution {
-        c0: number(fd),
-        c1: number(fd),
-        c2: number(fd),
-        c3: number(fd),
-        c4: number(fd),
-        c5: number(fd),
-        residual: number(fd),
+        c0: next_float(fd),
+        c1: next_float(fd),
+        c2: next_float(fd),
+        c3: next_float(fd),
+        c4: next_float(fd),
+        c5: next_float(fd),
+        residual: next_float(fd),
     };
     match solved {
         Solved::NoFit => fits == 0,
@@ -167,9 +130,9 @@ fn read_window(
     requires { ⌜ n ≤ 2048 ⌝ }
 {
     for k in 0..n {
-        rates[k] = number(fd);
-        moments[k] = number(fd);
-        held[k] = word(fd) == 1;
+        rates[k] = next_float(fd);
+        moments[k] = next_float(fd);
+        held[k] = next_word(fd) == 1;
     }
 }
 
@@ -180,11 +143,11 @@ fn sums_agree(fd: i32, first: u32) -> bool {
     let mut moments = [0.0f32; 2048];
     let mut held = [false; 2048];
     read_window(fd, n, &mut rates, &mut moments, &mut held);
-    word(fd);
+    next_word(fd);
     let shared = rows::sum_shared(&rates, &moments, &held, n);
     let mut ok = true;
     for k in 0..10 {
-        let expected = sums(fd, word(fd));
+        let expected = sums(fd, next_word(fd));
         let alone = rows::add_window(&rates, &moments, &held, n, k + 1, rows::no_sums());
         ok = ok & same_sums(alone, expected);
         ok = ok & same_sums(rows::delay_sums(shared, k + 1), expected);
@@ -202,15 +165,15 @@ fn class_number(c: Classified) -> u32 {
 }
 
 fn fit_agrees(fd: i32, fit: RecordedFit) -> bool {
-    let fits = word(fd);
-    let d = word(fd);
-    let r1 = number(fd);
-    let r2 = number(fd);
-    let m0 = number(fd);
-    let m1 = number(fd);
-    let m2 = number(fd);
-    let dt_s = number(fd);
-    let rms = number(fd);
+    let fits = next_word(fd);
+    let d = next_word(fd);
+    let r1 = next_float(fd);
+    let r2 = next_float(fd);
+    let m0 = next_float(fd);
+    let m1 = next_float(fd);
+    let m2 = next_float(fd);
+    let dt_s = next_float(fd);
+    let rms = next_float(fd);
     match fit {
         RecordedFit::NoFit => fits == 0,
         RecordedFit::Fit(m, r) => (fits == 1)
@@ -232,11 +195,11 @@ fn recorded_agrees(fd: i32, first: u32) -> bool {
     let mut moments = [0.0f32; 2048];
     let mut held = [false; 2048];
     read_window(fd, n, &mut rates, &mut moments, &mut held);
-    let duration_s = number(fd);
+    let duration_s = next_float(fd);
     let fit = recorded::fit_recorded(&rates, &moments, &held, n, duration_s);
     let class = recorded::classify(&rates, &moments, &held, n, duration_s);
     let agrees = fit_agrees(fd, fit);
-    agrees & (class_number(class) == word(fd))
+    agrees & (class_number(class) == next_word(fd))
 }
 
 // ---- files
@@ -251,27 +214,16 @@ fn agrees(file: File, fd: i32, first: u32) -> bool {
 }
 
 fn replay(file: File, name: &[u8], path: &[u8]) {
-    let fd = os::open_read(path);
-    if fd < 0 {
-        os::fail(path);
-        return;
-    }
-    let mut records: u64 = 0;
-    let mut agree: u64 = 0;
+    let fd = vectors::open(path);
+    let mut tally = Tally::new();
     for _ in 0..MOST {
-        let Read::Word(first) = read_word(fd) else {
+        let Read::Word(first) = vectors::read_word(fd) else {
             break;
         };
-        records += 1;
-        agree += flag(agrees(file, fd, first));
+        tally = tally.with(agrees(file, fd, first));
     }
     libc::close(fd);
-    io::write_all(STDOUT_FILENO, name);
-    io::write_all(STDOUT_FILENO, b": ");
-    io::print_decimal(STDOUT_FILENO, agree);
-    io::write_all(STDOUT_FILENO, b" of ");
-    io::print_decimal(STDOUT_FILENO, records);
-    io::write_all(STDOUT_FILENO, b" agree\n");
+    tally.print(name);
 }
 
 fn main() {

@@ -1,7 +1,11 @@
 // Replays vector files for the window, and prints how many records each file has and how many of them agree to the last bit.
 // The data are the reference's answers, written by the command in host/README.md with seed 1; window_patterns.bin has every
 // pattern of good and bad readings up to length 14. Words are big-endian.
-use libc::STDOUT_FILENO;
+use vectors::Tally;
+use vectors::flag;
+use vectors::float_at;
+use vectors::is_at;
+use vectors::word_at;
 use window::Counts;
 use window::Window;
 ghost use Prim.Native.Nat.{_≤_, _<_};
@@ -12,44 +16,9 @@ enum Kind {
     Recordings,
 }
 
-struct Tally {
-    records: u64,
-    agree: u64,
-}
-
-fn wide(b: u8) -> u32 {
-    b as u32
-}
-
 // The byte at a place; 0 where there is none.
 fn byte(s: &[u8], at: usize) -> u8 {
     if at < s.len() { s[at] } else { 0 }
-}
-
-// The word at a place; 0 where fewer than four bytes are left.
-fn word(s: &[u8], at: usize) -> u32 {
-    if s.len() < 4 {
-        return 0;
-    }
-    if s.len() - 4 < at {
-        return 0;
-    }
-    (wide(s[at]) << 24) | (wide(s[at + 1]) << 16) | (wide(s[at + 2]) << 8) | wide(s[at + 3])
-}
-
-fn float_at(s: &[u8], at: usize) -> f32 {
-    float::from_word(word(s, at))
-}
-
-// Whether a float is the one at a place, bit for bit.
-fn is_at(x: f32, s: &[u8], at: usize) -> bool {
-    float::to_word(x) == word(s, at)
-}
-
-fn flag(b: bool) -> u32
-    ensures { λ r. ⌜ r ≤ 1 ⌝ }
-{
-    if b { 1 } else { 0 }
 }
 
 // ---- patterns of bad readings
@@ -108,8 +77,8 @@ fn counts_at(c: Counts, s: &[u8], at: usize) -> bool
 
 // 16 bits of the pattern; bytes: readings, held, warm, rows.
 fn pattern_agrees(s: &[u8]) -> bool {
-    let pattern = (wide(byte(s, 0)) << 8) | wide(byte(s, 1));
-    counts_at(counts(pattern, 0, wide(byte(s, 2))), s, 3)
+    let pattern = ((byte(s, 0) as u32) << 8) | (byte(s, 1) as u32);
+    counts_at(counts(pattern, 0, byte(s, 2) as u32), s, 3)
 }
 
 // Bytes: good readings before, length of the pattern, pattern, good readings after, held, warm, rows, 0.
@@ -118,7 +87,7 @@ fn around_agrees(s: &[u8]) -> bool {
     let length = byte(s, 1) as u32;
     let after = byte(s, 3) as u32;
     counts_at(
-        counts(wide(byte(s, 2)), before, before + length + after),
+        counts(byte(s, 2) as u32, before, before + length + after),
         s,
         4,
     )
@@ -130,7 +99,7 @@ fn around_agrees(s: &[u8]) -> bool {
 fn tick_count(s: &[u8]) -> usize
     ensures { λ r. ⌜ r ≤ 4096 ⌝ }
 {
-    let n = word(s, 0);
+    let n = word_at(s, 0);
     if n < 4096 { n as usize } else { 4096 }
 }
 
@@ -157,7 +126,7 @@ fn samples_agree(
         let agree = is_at(rates[k], s, here)
             & is_at(moments[k], s, here + 4)
             & is_at(offsets[k], s, here + 8)
-            & (flag(held[k]) == word(s, here + 12));
+            & (flag(held[k]) == word_at(s, here + 12));
         if !agree {
             return false;
         }
@@ -170,10 +139,10 @@ fn totals_agree(w: Window, held: &[bool; 2048], s: &[u8], at: usize) -> bool
     requires { ⌜ at ≤ 100000 ⌝ }
 {
     let c = window::count_ticks(w, held);
-    (stored(w) == (word(s, at) as usize))
-        & (c.held == (word(s, at + 4) as usize))
-        & (c.warm == (word(s, at + 8) as usize))
-        & (c.rows == (word(s, at + 12) as usize))
+    (stored(w) == (word_at(s, at) as usize))
+        & (c.held == (word_at(s, at + 4) as usize))
+        & (c.warm == (word_at(s, at + 8) as usize))
+        & (c.rows == (word_at(s, at + 12) as usize))
         & is_at(w.duration_s, s, at + 16)
 }
 
@@ -209,7 +178,7 @@ fn recording_size(s: &[u8]) -> usize
     ensures { λ r. ⌜ (0 < r) × (r ≤ 200000) ⌝ }
 {
     let end = 4 + tick_count(s) * 16;
-    let stored = word(s, end);
+    let stored = word_at(s, end);
     if stored < 2048 {
         end + 20 + (stored as usize) * 16
     } else {
@@ -239,38 +208,24 @@ fn agrees(k: Kind, s: &[u8]) -> bool {
 
 fn replayed(k: Kind, s: &[u8]) -> Tally {
     let mut at = 0;
-    let mut records: u64 = 0;
-    let mut agree: u64 = 0;
+    let mut tally = Tally::new();
     while at < s.len() {
         let rest = &s[at..];
         let size = record_size(k, rest);
         if s.len() - at < size {
-            return Tally { records, agree };
+            return tally;
         }
-        records += 1;
-        agree += flag(agrees(k, rest)) as u64;
+        tally = tally.with(agrees(k, rest));
         at += size;
     }
-    Tally { records, agree }
+    tally
 }
 
 // A file holds at most 196,608 bytes.
 fn replay(k: Kind, name: &[u8], path: &[u8]) {
-    let fd = os::open_read(path);
-    if fd < 0 {
-        os::fail(path);
-        return;
-    }
     let mut buffer = [0u8; 196608];
-    let n = io::read_full(fd, &mut buffer);
-    libc::close(fd);
-    let t = replayed(k, &buffer[..n]);
-    io::write_all(STDOUT_FILENO, name);
-    io::write_all(STDOUT_FILENO, b": ");
-    io::print_decimal(STDOUT_FILENO, t.agree);
-    io::write_all(STDOUT_FILENO, b" of ");
-    io::print_decimal(STDOUT_FILENO, t.records);
-    io::write_all(STDOUT_FILENO, b" agree\n");
+    let n = vectors::read_file(path, &mut buffer);
+    replayed(k, &buffer[..n]).print(name);
 }
 
 fn main() {

@@ -13,8 +13,8 @@ abbrev μ-loop : tie.MeasureT-loop
 loop-holds : tie.Need-loop-holds Inv-loop μ-loop
 loop-holds c = search needs
 
-number-requires : tie.Need-number-requires Inv-loop μ-loop
-number-requires c κs = search needs
+next-float-requires : tie.Need-next-float-requires Inv-loop μ-loop
+next-float-requires c κs = search needs
 
 mul-rates : tie.Need-mul-rates Inv-loop μ-loop
 mul-rates c = search needs
@@ -22,8 +22,8 @@ mul-rates c = search needs
 element-write-rates : tie.Need-element-write-rates Inv-loop μ-loop
 element-write-rates c = search needs
 
-number-requires-2 : tie.Need-number-requires-2 Inv-loop μ-loop
-number-requires-2 c κs = search needs
+next-float-requires-2 : tie.Need-next-float-requires-2 Inv-loop μ-loop
+next-float-requires-2 c κs = search needs
 
 mul-moments : tie.Need-mul-moments Inv-loop μ-loop
 mul-moments c = search needs
@@ -31,8 +31,8 @@ mul-moments c = search needs
 element-write-moments : tie.Need-element-write-moments Inv-loop μ-loop
 element-write-moments c = search needs
 
-word-requires : tie.Need-word-requires Inv-loop μ-loop
-word-requires c κs = search needs
+next-word-requires : tie.Need-next-word-requires Inv-loop μ-loop
+next-word-requires c κs = search needs
 
 element-write-held : tie.Need-element-write-held Inv-loop μ-loop
 element-write-held c = search needs
@@ -56,13 +56,13 @@ read-window-spec =
     Inv-loop
     μ-loop
     loop-holds
-    number-requires
+    next-float-requires
     mul-rates
     element-write-rates
-    number-requires-2
+    next-float-requires-2
     mul-moments
     element-write-moments
-    word-requires
+    next-word-requires
     element-write-held
     add-k
     loop-less

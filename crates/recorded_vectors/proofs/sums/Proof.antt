@@ -25,8 +25,8 @@ array-write-normal c = search needs
 loop-holds : tie.Need-loop-holds Inv-loop μ-loop Inv-loop2 μ-loop2
 loop-holds c = search needs
 
-number-requires : tie.Need-number-requires Inv-loop μ-loop Inv-loop2 μ-loop2
-number-requires c κs = search needs
+next-float-requires : tie.Need-next-float-requires Inv-loop μ-loop Inv-loop2 μ-loop2
+next-float-requires c κs = search needs
 
 mul-normal : tie.Need-mul-normal Inv-loop μ-loop Inv-loop2 μ-loop2
 mul-normal c = search needs
@@ -46,8 +46,8 @@ loop-again c = search needs
 loop2-holds : tie.Need-loop2-holds Inv-loop μ-loop Inv-loop2 μ-loop2
 loop2-holds c = search needs
 
-number-requires-2 : tie.Need-number-requires-2 Inv-loop μ-loop Inv-loop2 μ-loop2
-number-requires-2 c κs = search needs
+next-float-requires-2 : tie.Need-next-float-requires-2 Inv-loop μ-loop Inv-loop2 μ-loop2
+next-float-requires-2 c κs = search needs
 
 mul-projected : tie.Need-mul-projected Inv-loop μ-loop Inv-loop2 μ-loop2
 mul-projected c = search needs
@@ -64,8 +64,8 @@ loop2-less c = search needs
 loop2-again : tie.Need-loop2-again Inv-loop μ-loop Inv-loop2 μ-loop2
 loop2-again c = search needs
 
-number-requires-3 : tie.Need-number-requires-3 Inv-loop μ-loop Inv-loop2 μ-loop2
-number-requires-3 c κs = search needs
+next-float-requires-3 : tie.Need-next-float-requires-3 Inv-loop μ-loop Inv-loop2 μ-loop2
+next-float-requires-3 c κs = search needs
 
 returns : tie.Need-returns Inv-loop μ-loop Inv-loop2 μ-loop2
 returns c = search needs
@@ -81,18 +81,18 @@ sums-spec =
     from-word-requires
     array-write-normal
     loop-holds
-    number-requires
+    next-float-requires
     mul-normal
     array-write-normal-2
     add-n
     loop-less
     loop-again
     loop2-holds
-    number-requires-2
+    next-float-requires-2
     mul-projected
     array-write-projected
     add-i
     loop2-less
     loop2-again
-    number-requires-3
+    next-float-requires-3
     returns)

@@ -16,8 +16,8 @@ stored-requires c κs = search needs
 read-window-requires : tie.Need-read-window-requires Inv-loop μ-loop
 read-window-requires c κs = search needs
 
-word-requires : tie.Need-word-requires Inv-loop μ-loop
-word-requires c κs = search needs
+next-word-requires : tie.Need-next-word-requires Inv-loop μ-loop
+next-word-requires c κs = search needs
 
 sum-shared-requires : tie.Need-sum-shared-requires Inv-loop μ-loop
 sum-shared-requires c κs = search needs
@@ -25,8 +25,8 @@ sum-shared-requires c κs = search needs
 loop-holds : tie.Need-loop-holds Inv-loop μ-loop
 loop-holds c = search needs
 
-word-requires-2 : tie.Need-word-requires-2 Inv-loop μ-loop
-word-requires-2 c κs = search needs
+next-word-requires-2 : tie.Need-next-word-requires-2 Inv-loop μ-loop
+next-word-requires-2 c κs = search needs
 
 sums-requires : tie.Need-sums-requires Inv-loop μ-loop
 sums-requires c κs = search needs
@@ -72,10 +72,10 @@ sums-agree-spec =
     μ-loop
     stored-requires
     read-window-requires
-    word-requires
+    next-word-requires
     sum-shared-requires
     loop-holds
-    word-requires-2
+    next-word-requires-2
     sums-requires
     add-add-window
     no-sums-requires

@@ -13,17 +13,17 @@ abbrev μ-loop : tie.MeasureT-loop
 from-word-requires : tie.Need-from-word-requires Inv-loop μ-loop
 from-word-requires c κs = search needs
 
-word-requires : tie.Need-word-requires Inv-loop μ-loop
-word-requires c κs = search needs
+next-word-requires : tie.Need-next-word-requires Inv-loop μ-loop
+next-word-requires c κs = search needs
 
 loop-holds : tie.Need-loop-holds Inv-loop μ-loop
 loop-holds c = search needs
 
-number-requires : tie.Need-number-requires Inv-loop μ-loop
-number-requires c κs = search needs
+next-float-requires : tie.Need-next-float-requires Inv-loop μ-loop
+next-float-requires c κs = search needs
 
-number-requires-2 : tie.Need-number-requires-2 Inv-loop μ-loop
-number-requires-2 c κs = search needs
+next-float-requires-2 : tie.Need-next-float-requires-2 Inv-loop μ-loop
+next-float-requires-2 c κs = search needs
 
 cast-entry : tie.Need-cast-entry Inv-loop μ-loop
 cast-entry c = search needs
@@ -46,14 +46,14 @@ loop-less c = search needs
 loop-again : tie.Need-loop-again Inv-loop μ-loop
 loop-again c = search needs
 
-number-requires-3 : tie.Need-number-requires-3 Inv-loop μ-loop
-number-requires-3 c κs = search needs
+next-float-requires-3 : tie.Need-next-float-requires-3 Inv-loop μ-loop
+next-float-requires-3 c κs = search needs
 
-number-requires-4 : tie.Need-number-requires-4 Inv-loop μ-loop
-number-requires-4 c κs = search needs
+next-float-requires-4 : tie.Need-next-float-requires-4 Inv-loop μ-loop
+next-float-requires-4 c κs = search needs
 
-word-requires-2 : tie.Need-word-requires-2 Inv-loop μ-loop
-word-requires-2 c κs = search needs
+next-word-requires-2 : tie.Need-next-word-requires-2 Inv-loop μ-loop
+next-word-requires-2 c κs = search needs
 
 cast-expected : tie.Need-cast-expected Inv-loop μ-loop
 cast-expected c = search needs
@@ -80,10 +80,10 @@ tie-agrees-spec =
     Inv-loop
     μ-loop
     from-word-requires
-    word-requires
+    next-word-requires
     loop-holds
-    number-requires
-    number-requires-2
+    next-float-requires
+    next-float-requires-2
     cast-entry
     entry-requires
     mul-entries
@@ -91,9 +91,9 @@ tie-agrees-spec =
     add-k
     loop-less
     loop-again
-    number-requires-3
-    number-requires-4
-    word-requires-2
+    next-float-requires-3
+    next-float-requires-4
+    next-word-requires-2
     cast-expected
     delay-to-fit-requires
     enum-told

@@ -1,5 +1,4 @@
--- `sweep_vectors::replayed` is safe and ends. The loop's invariant: the place is within the slice, and a record is at least a byte long, so neither count is above the place.
--- The measure is what is left of the slice.
+-- `sweep_vectors::replayed` is safe and ends. The loop's invariant: the place is within the slice. The measure is what is left of the slice.
 use Prim.Native.Nat.{_≤_, _-_}
 use lib.ListN.{length}
 use borrow.Author.Needs.{needs}
@@ -7,13 +6,16 @@ use Rattle.sweep_vectors.proofs.replayed.Statement.{statement}
 use Rattle.sweep_vectors.proofs.replayed.Tie as tie
 
 abbrev Inv-loop : tie.InvT-loop
-Inv-loop k s size at₀ records₀ agree₀ at records agree = (at ≤ length s) × (records ≤ at) × (agree ≤ records)
+Inv-loop k s size at₀ tally₀ at tally = at ≤ length s
 
 abbrev μ-loop : tie.MeasureT-loop
-μ-loop k s size at₀ records₀ agree₀ at records agree = length s - at
+μ-loop k s size at₀ tally₀ at tally = length s - at
 
 record-size-requires : tie.Need-record-size-requires Inv-loop μ-loop
 record-size-requires c κs = search needs
+
+new-requires : tie.Need-new-requires Inv-loop μ-loop
+new-requires c κs = search needs
 
 loop-holds : tie.Need-loop-holds Inv-loop μ-loop
 loop-holds c = search needs
@@ -36,17 +38,8 @@ part-agrees-end c = search needs
 agrees-requires : tie.Need-agrees-requires Inv-loop μ-loop
 agrees-requires c κs = search needs
 
-add-records : tie.Need-add-records Inv-loop μ-loop
-add-records c = search needs
-
-flag-requires : tie.Need-flag-requires Inv-loop μ-loop
-flag-requires c κs = search needs
-
-cast-agree : tie.Need-cast-agree Inv-loop μ-loop
-cast-agree c = search needs
-
-add-agree : tie.Need-add-agree Inv-loop μ-loop
-add-agree c = search needs
+with-requires : tie.Need-with-requires Inv-loop μ-loop
+with-requires c κs = search needs
 
 add-at : tie.Need-add-at Inv-loop μ-loop
 add-at c = search needs
@@ -67,6 +60,7 @@ replayed-spec =
     Inv-loop
     μ-loop
     record-size-requires
+    new-requires
     loop-holds
     sub-loop
     add-agrees
@@ -74,10 +68,7 @@ replayed-spec =
     part-agrees-start
     part-agrees-end
     agrees-requires
-    add-records
-    flag-requires
-    cast-agree
-    add-agree
+    with-requires
     add-at
     loop-less
     loop-again
