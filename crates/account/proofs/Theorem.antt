@@ -1,9 +1,8 @@
 -- Demand 3, on the definitions: the claim holds of every configuration and every list of calls. The report of the probe is then that of the account.
-use Prim.Native.Nat.{ℕ, zero, suc, _+_, _-_, _/_, _<_}
-use mathlib.Core.Path.{_≡_, refl, sym, ap, ap₂, _∙_, subst, fun-ext}
+use Prim.Native.Nat.{ℕ, suc, _+_, _-_, _/_, _<_}
+use mathlib.Core.Path.{_≡_, refl, sym, ap₂, subst}
 use mathlib.Core.Bool.{Bool, true, false, true≢false}
-use mathlib.Core.Option.{some}
-use mathlib.Core.List.{List, [], _++_, foldl-append}
+use mathlib.Core.List.{List, [], foldl-append}
 use native.Mathlib.Omega.{arith}
 use native.Mathlib.Nat.{div-lt-iff-lt-mul}
 use lib.Dec.{lit<}
@@ -12,10 +11,9 @@ use lib.Ieee.{Float, binary32, add, lt}
 use Rattle.float.specs.Values.{whole32}
 use Rattle.float.specs.Series.{at}
 use Rattle.sweep.proofs.Edges.{passes}
-use Rattle.window.specs.Runs.{goodRuns, rowsOf}
 use Rattle.window.proofs.Rows as rows
-use Rattle.least_squares.specs.declared.Sums.{Sums}
-use Rattle.rows.specs.Rows.{regressors, sumsBy, sumRows, sumTicks, windowSums, noSums}
+use Rattle.rows.specs.Rows.{noSums}
+use Rattle.rows.proofs.Pairing.{first-moment, over-exactly-the-rows}
 use Rattle.lags.specs.Lags.{lagged, lagTo}
 use Rattle.gain.specs.Gain.{firstTick, stepCount, wholeTicksOf, isHalf, blend, felt, regressor}
 use Rattle.account.specs.declared.IdentifyConfig.{IdentifyConfig}
@@ -27,21 +25,6 @@ use Rattle.account.proofs.Follow.{follows, turns, begins, clocks}
 use Rattle.account.proofs.Counts.{count, full}
 use Rattle.account.proofs.Sweeps.{safe, safe-fresh, in-time}
 use Rattle.account.proofs.Ends.{fits, delayed}
-
--- a sum over a window's rows, walked tick by tick, is the sum over the list of its rows
-row-sums : (marks : List Bool) (f : ℕ → Float) (s : Float) → sumRows marks (length marks) f s ≡ sumTicks (rowsOf (goodRuns marks)) f s
-unfolding sumRows sumTicks
-row-sums marks f s = rows.sums marks (λ (x : Float) (k : ℕ). add binary32 x (f k)) s
-
-all-sums : (rates moments : List Float) (marks : List Bool) (n d : ℕ) → n ≡ length marks
-    → windowSums rates moments marks n d noSums ≡ sumsBy (sumTicks (rowsOf (goodRuns marks))) rates moments d noSums
-unfolding windowSums
-all-sums rates moments marks n d h =
-    rw h (ap (λ (total : (ℕ → Float) → Float → Float). sumsBy total rates moments d noSums) (fun-ext (λ f. fun-ext (λ s. row-sums marks f s))))
-
-row-pairs : (rates moments : List Float) (d k : ℕ) → at (regressors rates moments d k) 2 ≡ at moments (k + 1 - d)
-unfolding regressors
-row-pairs rates moments d k = refl
 
 gain-pairs : (u : ℕ → Float) (s i : ℕ) (pole : Float) → s < stepCount
     → regressor s pole u i ≡ blend (isHalf s) (lagged pole u (firstTick + i + 1 - wholeTicksOf s)) (lagged pole u (firstTick + i - wholeTicksOf s))
@@ -80,10 +63,10 @@ accounted c calls =
       rows = rows.rows marks;
       whole = rw (← length-map (a .entries) (λ (e : Entry). e .held)) (omega (arith, rows.whole marks [] 0));
       by-runs = rows.by-runs (runsOf a);
-      sums = λ d. all-sums (ratesOf a) (momentsOf a) marks (length (ratesOf a)) d entries;
+      sums = λ d. rw entries (over-exactly-the-rows marks (ratesOf a) (momentsOf a) d noSums);
       standing = refl;
       fits = fits (a .running) (a .elapsed) (ratesOf a) (momentsOf a) marks (a .duration);
-      row-pairing = λ d k. row-pairs (ratesOf a) (momentsOf a) d k;
+      row-pairing = λ d k. first-moment (ratesOf a) (momentsOf a) d k;
       gain-pairing = λ s i pole h. gain-pairs (at (momentsOf a)) s i pole h;
       delay = λ m h. delayed a m (a .running) h;
       inside = safely .inside;

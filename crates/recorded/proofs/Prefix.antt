@@ -10,9 +10,10 @@ use lib.Seq.{take-nil, length-take-le}
 use lib.Ieee.{Float}
 use Rattle.window.specs.Samples.{capacity}
 use Rattle.window.specs.Walk.{many, isRow}
+use Rattle.window.proofs.Prefix.{many-take}
 use Rattle.delay.specs.Tie.{delayToFit}
 use Rattle.rows.specs.Rows.{noSums}
-use Rattle.rows.proofs.Prefix.{window-take, sum-take, many-take}
+use Rattle.rows.proofs.Prefix.{window-take, sum-take}
 use Rattle.recorded.specs.Classify.{tieShare, entries, solvedAt, rowsDt, fitOf, fitRecorded}
 use Rattle.recorded.specs.Stages.{Stored, solvedBelow, rowsBelow, rowsDtBelow}
 

@@ -121,10 +121,10 @@ fn solve_delays(
     requires { ⌜ n ≤ capacity ⌝ }
     ensures { λ r. ⌜ r ≡ solvedList (solvedBelow (now (rates .entry)) (now (moments .entry)) (now (held .entry)) n) ⌝ }
 {
-    let shared = rows::sum_shared(rates, moments, held, n);
+    let shared = shared_sums::sum_shared(rates, moments, held, n);
     let mut fits = [Solved::NoFit; 10];
     for k in 0..10 {
-        fits[k] = rows::delay_sums(shared, k + 1).solve();
+        fits[k] = shared_sums::delay_sums(shared, k + 1).solve();
     }
     fits
 }

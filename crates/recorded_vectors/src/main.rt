@@ -144,13 +144,13 @@ fn sums_agree(fd: i32, first: u32) -> bool {
     let mut held = [false; 2048];
     read_window(fd, n, &mut rates, &mut moments, &mut held);
     next_word(fd);
-    let shared = rows::sum_shared(&rates, &moments, &held, n);
+    let shared = shared_sums::sum_shared(&rates, &moments, &held, n);
     let mut ok = true;
     for k in 0..10 {
         let expected = sums(fd, next_word(fd));
         let alone = rows::add_window(&rates, &moments, &held, n, k + 1, rows::no_sums());
         ok = ok & same_sums(alone, expected);
-        ok = ok & same_sums(rows::delay_sums(shared, k + 1), expected);
+        ok = ok & same_sums(shared_sums::delay_sums(shared, k + 1), expected);
     }
     ok
 }

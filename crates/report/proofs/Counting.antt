@@ -1,15 +1,15 @@
 -- The report of a probe in its arrays, counted over the stored ticks.
-use Prim.Native.Nat.{ℕ, _≤_}
+use Prim.Native.Nat.{_≤_}
 use mathlib.Core.Path.{_≡_}
 use mathlib.Core.Bool.{Bool}
 use mathlib.Core.List.{List}
 use native.Mathlib.Omega.{arith}
-use lib.ListN.{length, take}
+use lib.ListN.{length}
 use lib.Seq.{length-take-le}
 use lib.Ieee.{Float}
 use Rattle.window.specs.Walk.{isHeld, isWarm, isRow}
 use Rattle.window.specs.Arrays.{storedOf, samplesIn, manyTo}
-use Rattle.rows.proofs.Prefix.{many-take}
+use Rattle.window.proofs.Prefix.{many-take}
 use Rattle.account.specs.Probe.{clock}
 use Rattle.identify.specs.declared.IdentifyProbe.{IdentifyProbe}
 use Rattle.identify.specs.Seen.{seen}

@@ -3,4 +3,3 @@ pub mod Walked
 pub mod Together
 pub mod Prefix
 pub mod Pairing
-pub mod Shared

@@ -1,6 +1,6 @@
 -- Which moments meet which tick, and which ticks are rows.
 use Prim.Native.Nat.{ℕ, zero, suc, _+_, _-_, _<_, _≤_}
-use mathlib.Core.Path.{_≡_, refl}
+use mathlib.Core.Path.{_≡_, refl, ap, fun-ext}
 use mathlib.Core.Bool.{Bool, true, false, not, _&&_, cond}
 use mathlib.Core.Logic.{⊎-elim}
 use mathlib.Core.List.{List}
@@ -14,9 +14,7 @@ use Rattle.window.specs.Walk.{run, markAt, isRow}
 use Rattle.window.specs.Runs.{goodRuns, rowsOf}
 use Rattle.window.proofs.Rows.{sums}
 use Rattle.least_squares.specs.declared.Sums.{Sums}
-use Rattle.rows.specs.Rows.{target, regressors, product, projection, sumRows, sumTicks, sumsBy, windowSums}
-use Rattle.rows.proofs.Each.{each-by}
-use Rattle.rows.proofs.Together.{same-sums}
+use Rattle.rows.specs.Rows.{regressors, sumRows, sumTicks, sumsBy, windowSums}
 
 -- "moment k+1-d is the first moment in the row of tick k", and the two before it follow
 module _ (rates moments : List Float) (d k : ℕ) where
@@ -70,9 +68,5 @@ module _ (marks : List Bool) where
 
   pub over-exactly-the-rows : (rates moments : List Float) (d : ℕ) (start : Sums)
       → windowSums rates moments marks (length marks) d start ≡ sumsBy (sumTicks (rowsOf (goodRuns marks))) rates moments d start
-  unfolding windowSums sumsBy
-  over-exactly-the-rows rates moments d start =
-      same-sums _ _
-      (each-by 36 _ _ (start .normal) (λ i s h. total (λ k. product (regressors rates moments d k) i) s))
-      (each-by 6 _ _ (start .projected) (λ i s h. total (λ k. projection (regressors rates moments d k) (target rates k) i) s))
-      (total _ (start .«target_squared»))
+  unfolding windowSums
+  over-exactly-the-rows rates moments d start = ap (λ (t : (ℕ → Float) → Float → Float). sumsBy t rates moments d start) (fun-ext (λ f. fun-ext (λ s. total f s)))

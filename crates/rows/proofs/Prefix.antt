@@ -1,37 +1,21 @@
--- A walk over the ticks below n reads a window's lists below n alone, and so do the sums.
-use Prim.Native.Nat.{ℕ, zero, suc, _+_, _-_, _<_, _≤_}
+-- The sums over the ticks below n read a window's lists below n alone.
+use Prim.Native.Nat.{ℕ, _+_, _-_, _<_, _≤_}
 use mathlib.Core.Path.{_≡_, refl, sym, _∙_}
-use mathlib.Core.Bool.{Bool, false}
+use mathlib.Core.Bool.{Bool}
 use mathlib.Core.List.{List}
 use native.Mathlib.Omega.{arith}
-use lib.ListN.{take, length}
+use lib.ListN.{take}
 use lib.Seq.{getD-take}
 use lib.Ieee.{Float, nan}
-use Rattle.window.specs.Walk.{run, over, many, markAt, isRow}
+use Rattle.window.specs.Walk.{isRow}
+use Rattle.window.proofs.Prefix.{over-take}
 use Rattle.least_squares.specs.declared.Sums.{Sums}
 use Rattle.rows.specs.Rows.{target, regressors, sumRows, windowSums}
 use Rattle.rows.proofs.Together.{addRow, window-walk}
 
-run-take : (marks : List Bool) (n k : ℕ) → k ≤ n → run (markAt (take n marks)) k ≡ run (markAt marks) k
-unfolding run
-run-take marks n zero h = refl
-run-take marks n (suc k) h = let l : k ≤ n = omega arith in rw (getD-take n marks k false h, run-take marks n k l)
-
-pub over-take : {S : Type 0} (such : Bool → ℕ → Bool) (marks : List Bool) (f g : S → ℕ → S) (s : S) (n k : ℕ) → k ≤ n → ((x : S) (i : ℕ) → i < n → f x i ≡ g x i)
-    → over such (markAt (take n marks)) f s k ≡ over such (markAt marks) g s k
-unfolding over
-over-take such marks f g s n zero h e = refl
-over-take such marks f g s n (suc k) h e =
-    let l : k ≤ n = omega arith in
-    rw (getD-take n marks k false h, run-take marks n k l, over-take such marks f g s n k l e, e (over such (markAt marks) g s k) k h)
-
 pub sum-take : (marks : List Bool) (n : ℕ) (f : ℕ → Float) (s : Float) → sumRows (take n marks) n f s ≡ sumRows marks n f s
 unfolding sumRows
 sum-take marks n f s = over-take isRow marks _ _ s n n (omega arith) (λ x i h. refl)
-
-pub many-take : (such : Bool → ℕ → Bool) (marks : List Bool) (n : ℕ) → length (take n marks) ≡ n → many such (take n marks) ≡ over such (markAt marks) (λ (m k : ℕ). suc m) 0 n
-unfolding many
-many-take such marks n h = rw h (over-take such marks _ _ 0 n n (omega arith) (λ x i l. refl))
 
 target-take : (rates : List Float) (n k : ℕ) → k < n → target (take n rates) k ≡ target rates k
 unfolding target

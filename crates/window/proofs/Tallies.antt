@@ -22,7 +22,7 @@ emptied : (b : Bool) (m n : ℕ) → m ≤ n → cond b 0 (suc m) ≤ suc n
 emptied true m n h = omega arith
 emptied false m n h = omega arith
 
-run-at-most : (mark : ℕ → Bool) (n : ℕ) → run mark n ≤ n
+pub run-at-most : (mark : ℕ → Bool) (n : ℕ) → run mark n ≤ n
 unfolding run
 run-at-most mark zero = omega arith
 run-at-most mark (suc n) = emptied (mark n) (run mark n) n (run-at-most mark n)

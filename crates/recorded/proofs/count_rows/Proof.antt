@@ -9,13 +9,13 @@ use Rattle.recorded.proofs.count_rows.Statement.{statement}
 use Rattle.recorded.proofs.count_rows.Tie as tie
 
 abbrev Inv-loop : tie.InvT-loop
-Inv-loop held n rows₀ run₀ k₀ rows run k = (k ≤ n) × (run ≤ k) × (rows ≤ k) × Walked held (λ (m k : ℕ). suc m) 0 k run rows
+Inv-loop held n rows₀ run₀ k₀ rows run k = (k ≤ n) × (rows ≤ k) × Walked held (λ (m k : ℕ). suc m) 0 k run rows
 
 abbrev μ-loop : tie.MeasureT-loop
 μ-loop held n rows₀ run₀ k₀ rows run k = n - k
 
 loop-holds : tie.Need-loop-holds Inv-loop μ-loop
-loop-holds c = (omega arith, omega arith, omega arith, begun)
+loop-holds c = (omega arith, omega arith, begun)
 
 element-copy-out-next-run : tie.Need-element-copy-out-next-run Inv-loop μ-loop
 element-copy-out-next-run c = search needs
@@ -30,9 +30,7 @@ loop-less : tie.Need-loop-less Inv-loop μ-loop
 loop-less c = search needs
 
 loop-again : tie.Need-loop-again Inv-loop μ-loop
-loop-again c =
-    let w = c .before .before .before .before .loop .inv .3 in
-    (omega arith, omega arith, omega arith, rw add-one (skipped w _ (c .before .next-run .ensures .0) (c .if1 .taken)))
+loop-again c = (omega arith, omega arith, skipped (c .before .before .before .before .loop .inv .2) (c .before .next-run .ensures .0) (c .if1 .taken))
 
 add-rows : tie.Need-add-rows Inv-loop μ-loop
 add-rows c = search needs
@@ -44,14 +42,12 @@ loop-less-2 : tie.Need-loop-less-2 Inv-loop μ-loop
 loop-less-2 c = search needs
 
 loop-again-2 : tie.Need-loop-again-2 Inv-loop μ-loop
-loop-again-2 c =
-    let w = c .before .before .before .before .loop .inv .3 in
-    (omega arith, omega arith, omega arith, rw (add-one (c .before .before .before .before .loop .k)) (added w _ (c .before .next-run .ensures .0) (c .if1 .left) (add-one _)))
+loop-again-2 c = (omega arith, omega arith, added (c .before .before .before .before .loop .inv .2) (c .before .next-run .ensures .0) (c .if1 .left) (add-one _))
 
 returns : tie.Need-returns Inv-loop μ-loop
 returns c =
     let e : c .before .loop .k ≡ c .before .before .args .n = omega arith in
-    let w = rw e at (c .before .loop .inv .3) in
+    let w = rw e at (c .before .loop .inv .2) in
     (w .total-is, omega arith)
 
 pub count-rows-spec : {M : Type 1} → statement M

@@ -6,9 +6,9 @@ use native.Mathlib.Omega.{arith}
 use native.Mathlib.Numerals.{add-one}
 use borrow.Author.Needs.{needs}
 use Rattle.float.specs.Series.{fill}
-use Rattle.rows.specs.Shared.{sharedSums}
+use Rattle.shared_sums.specs.Shared.{sharedSums}
+use Rattle.shared_sums.proofs.Shared.{delay-is}
 use Rattle.recorded.specs.Stages.{solvedBelow, solvedList}
-use Rattle.rows.proofs.Shared.{delay-is}
 use Rattle.recorded.proofs.solve_delays.Statement.{statement}
 use Rattle.recorded.proofs.solve_delays.Tie as tie
 

@@ -2,24 +2,22 @@
 use Prim.Native.Nat.{ℕ, _≤_, _-_}
 use mathlib.Core.Path.{_≡_, refl}
 use native.Mathlib.Omega.{arith}
-use native.Mathlib.Numerals.{add-one}
 use borrow.Author.Needs.{needs}
-use lib.Ieee.{binary32, add}
+use lib.Ieee.{Float, binary32, add}
 use Rattle.float.specs.Values.{zero32}
 use Rattle.rows.specs.Rows.{sumRows}
 use Rattle.rows.proofs.Walked.{Walked, begun, skipped, added}
-use lib.Ieee.{Float}
 use Rattle.recorded.proofs.sum_rows_dt.Statement.{statement}
 use Rattle.recorded.proofs.sum_rows_dt.Tie as tie
 
 abbrev Inv-loop : tie.InvT-loop
-Inv-loop held n dt-s sum₀ run₀ k₀ sum run k = (k ≤ n) × (run ≤ k) × Walked held (λ (x : Float) (k : ℕ). add binary32 x dt-s) zero32 k run sum
+Inv-loop held n dt-s sum₀ run₀ k₀ sum run k = (k ≤ n) × Walked held (λ (x : Float) (k : ℕ). add binary32 x dt-s) zero32 k run sum
 
 abbrev μ-loop : tie.MeasureT-loop
 μ-loop held n dt-s sum₀ run₀ k₀ sum run k = n - k
 
 loop-holds : tie.Need-loop-holds Inv-loop μ-loop
-loop-holds c = (omega arith, omega arith, begun)
+loop-holds c = (omega arith, begun)
 
 element-copy-out-next-run : tie.Need-element-copy-out-next-run Inv-loop μ-loop
 element-copy-out-next-run c = search needs
@@ -34,9 +32,7 @@ loop-less : tie.Need-loop-less Inv-loop μ-loop
 loop-less c = search needs
 
 loop-again : tie.Need-loop-again Inv-loop μ-loop
-loop-again c =
-    let w = c .before .before .before .before .loop .inv .2 in
-    (omega arith, omega arith, rw add-one (skipped w _ (c .before .next-run .ensures .0) (c .if1 .taken)))
+loop-again c = (omega arith, skipped (c .before .before .before .before .loop .inv .1) (c .before .next-run .ensures .0) (c .if1 .taken))
 
 add-k-2 : tie.Need-add-k-2 Inv-loop μ-loop
 add-k-2 c = search needs
@@ -45,15 +41,13 @@ loop-less-2 : tie.Need-loop-less-2 Inv-loop μ-loop
 loop-less-2 c = search needs
 
 loop-again-2 : tie.Need-loop-again-2 Inv-loop μ-loop
-loop-again-2 c =
-    let w = c .before .before .before .before .loop .inv .2 in
-    (omega arith, omega arith, rw add-one (added w _ (c .before .next-run .ensures .0) (c .if1 .left) refl))
+loop-again-2 c = (omega arith, added (c .before .before .before .before .loop .inv .1) (c .before .next-run .ensures .0) (c .if1 .left) refl)
 
 returns : tie.Need-returns Inv-loop μ-loop
 unfolding sumRows
 returns c =
     let e : c .before .loop .k ≡ c .before .before .args .n = omega arith in
-    let w = rw e at (c .before .loop .inv .2) in
+    let w = rw e at (c .before .loop .inv .1) in
     w .total-is
 
 pub sum-rows-dt-spec : {M : Type 1} → statement M

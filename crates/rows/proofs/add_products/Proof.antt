@@ -1,24 +1,22 @@
 -- `rows::add_products` meets its contract. The loop's invariant: the entries before n have their products added. The measure is the entries left.
 use Prim.Native.Nat.{_≤_, _-_}
-use mathlib.Core.Path.{_≡_, refl, _∙_}
+use mathlib.Core.Path.{_≡_, refl}
 use native.Mathlib.Omega.{arith}
-use native.Mathlib.Numerals.{add-one}
 use borrow.Author.Needs.{needs}
 use lib.Ieee.{binary32, add}
-use Rattle.float.specs.Series.{at, fill}
-use Rattle.rows.specs.Rows.{product}
-use Rattle.rows.proofs.Each.{fill-each}
+use Rattle.rows.specs.Rows.{product, each}
+use Rattle.rows.proofs.Each.{each-next}
 use Rattle.rows.proofs.add_products.Statement.{statement}
 use Rattle.rows.proofs.add_products.Tie as tie
 
 abbrev Inv-loop : tie.InvT-loop
-Inv-loop normal₀ terms n₀ normal n = (n ≤ 36) × (normal ≡ fill (λ n l. add binary32 (at l n) (product terms n)) normal₀ n)
+Inv-loop normal₀ terms n₀ normal n = (n ≤ 36) × (normal ≡ each n (λ n s. add binary32 s (product terms n)) normal₀)
 
 abbrev μ-loop : tie.MeasureT-loop
 μ-loop normal₀ terms n₀ normal n = 36 - n
 
 loop-holds : tie.Need-loop-holds Inv-loop μ-loop
-unfolding fill
+unfolding each
 loop-holds c = (omega arith, refl)
 
 mul-normal : tie.Need-mul-normal Inv-loop μ-loop
@@ -52,11 +50,11 @@ loop-less : tie.Need-loop-less Inv-loop μ-loop
 loop-less c = search needs
 
 loop-again : tie.Need-loop-again Inv-loop μ-loop
-unfolding fill product
-loop-again c = (omega arith, rw add-one (cc))
+unfolding product
+loop-again c = (omega arith, each-next _ _ _ (c .before .before .before .before .loop .inv .1))
 
 returns : tie.Need-returns Inv-loop μ-loop
-returns c = let e : c .before .loop .n ≡ 36 = omega arith in rw e at (c .before .loop .inv .1) ∙ fill-each 36 (λ n s. add binary32 s (product (c .before .before .args .terms .now) n)) (c .before .before .args .normal .now)
+returns c = let e : c .before .loop .n ≡ 36 = omega arith in rw e at (c .before .loop .inv .1)
 
 pub add-products-spec : {M : Type 1} → statement M
 add-products-spec =

@@ -1,24 +1,22 @@
 -- `rows::add_projections` meets its contract. The loop's invariant: the entries before i have their products added. The measure is the entries left.
 use Prim.Native.Nat.{_≤_, _-_}
-use mathlib.Core.Path.{_≡_, refl, _∙_}
+use mathlib.Core.Path.{_≡_, refl}
 use native.Mathlib.Omega.{arith}
-use native.Mathlib.Numerals.{add-one}
 use borrow.Author.Needs.{needs}
 use lib.Ieee.{binary32, add}
-use Rattle.float.specs.Series.{at, fill}
-use Rattle.rows.specs.Rows.{target, projection}
-use Rattle.rows.proofs.Each.{fill-each}
+use Rattle.rows.specs.Rows.{projection, each}
+use Rattle.rows.proofs.Each.{each-next}
 use Rattle.rows.proofs.add_projections.Statement.{statement}
 use Rattle.rows.proofs.add_projections.Tie as tie
 
 abbrev Inv-loop : tie.InvT-loop
-Inv-loop projected₀ terms target i₀ projected i = (i ≤ 6) × (projected ≡ fill (λ n l. add binary32 (at l n) (projection terms target n)) projected₀ i)
+Inv-loop projected₀ terms target i₀ projected i = (i ≤ 6) × (projected ≡ each i (λ i s. add binary32 s (projection terms target i)) projected₀)
 
 abbrev μ-loop : tie.MeasureT-loop
 μ-loop projected₀ terms target i₀ projected i = 6 - i
 
 loop-holds : tie.Need-loop-holds Inv-loop μ-loop
-unfolding fill
+unfolding each
 loop-holds c = (omega arith, refl)
 
 mul-projected : tie.Need-mul-projected Inv-loop μ-loop
@@ -46,11 +44,11 @@ loop-less : tie.Need-loop-less Inv-loop μ-loop
 loop-less c = search needs
 
 loop-again : tie.Need-loop-again Inv-loop μ-loop
-unfolding fill projection
-loop-again c = (omega arith, rw add-one (cc))
+unfolding projection
+loop-again c = (omega arith, each-next _ _ _ (c .before .before .before .loop .inv .1))
 
 returns : tie.Need-returns Inv-loop μ-loop
-returns c = let e : c .before .loop .i ≡ 6 = omega arith in rw e at (c .before .loop .inv .1) ∙ fill-each 6 (λ i s. add binary32 s (projection (c .before .before .args .terms .now) (c .before .before .args .target) i)) (c .before .before .args .projected .now)
+returns c = let e : c .before .loop .i ≡ 6 = omega arith in rw e at (c .before .loop .inv .1)
 
 pub add-projections-spec : {M : Type 1} → statement M
 add-projections-spec =

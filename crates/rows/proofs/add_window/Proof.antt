@@ -2,7 +2,6 @@
 use Prim.Native.Nat.{_≤_, _-_}
 use mathlib.Core.Path.{_≡_, refl, sym, _∙_}
 use native.Mathlib.Omega.{arith}
-use native.Mathlib.Numerals.{add-one}
 use borrow.Author.Needs.{needs}
 use lib.Ieee.{sub}
 use Rattle.rows.specs.Rows.{target}
@@ -13,14 +12,13 @@ use Rattle.rows.proofs.add_window.Tie as tie
 
 abbrev Inv-loop : tie.InvT-loop
 Inv-loop rates moments held len d normal₀ projected₀ target-squared₀ run₀ k₀ normal projected target-squared run k =
-    (k ≤ len) × (run ≤ k)
-    × Walked held (addRow rates moments d) (sumsOf normal₀ projected₀ target-squared₀) k run (sumsOf normal projected target-squared)
+    (k ≤ len) × Walked held (addRow rates moments d) (sumsOf normal₀ projected₀ target-squared₀) k run (sumsOf normal projected target-squared)
 
 abbrev μ-loop : tie.MeasureT-loop
 μ-loop rates moments held len d normal₀ projected₀ target-squared₀ run₀ k₀ normal projected target-squared run k = len - k
 
 loop-holds : tie.Need-loop-holds Inv-loop μ-loop
-loop-holds c = (omega arith, omega arith, begun)
+loop-holds c = (omega arith, begun)
 
 element-copy-out-next-run : tie.Need-element-copy-out-next-run Inv-loop μ-loop
 element-copy-out-next-run c = search needs
@@ -35,10 +33,7 @@ loop-less : tie.Need-loop-less Inv-loop μ-loop
 loop-less c = search needs
 
 loop-again : tie.Need-loop-again Inv-loop μ-loop
-loop-again c =
-    let w = c .before .before .before .before .loop .inv .2 in
-    let r = c .before .next-run .ensures .0 in
-    (omega arith, omega arith, rw add-one (skipped w _ r (c .if1 .taken)))
+loop-again c = (omega arith, skipped (c .before .before .before .before .loop .inv .1) (c .before .next-run .ensures .0) (c .if1 .taken))
 
 regressors-requires : tie.Need-regressors-requires Inv-loop μ-loop
 regressors-requires c κs = search needs
@@ -75,16 +70,16 @@ unfolding target sub
 loop-again-2 c =
     let terms = c .before .before .before .before .before .before .before .before in
     let left = terms .before in
-    let walked = left .before .before .before .before in
-    let w = walked .loop .inv .2 in
-    let r = left .before .next-run .ensures .0 in
-    let row = row-added _ _ _ _ _ (terms .regressors .ensures) refl (c .before .before .before .add-products .ensures) (c .add-projections .ensures) in
-    (omega arith, omega arith, rw add-one (added w _ r (left .if1 .left) row))
+    let w = left .before .before .before .before .loop .inv .1 in (
+      omega arith,
+      added w (left .before .next-run .ensures .0) (left .if1 .left)
+          (row-added _ _ _ _ _ (terms .regressors .ensures) refl (c .before .before .before .add-products .ensures) (c .add-projections .ensures)),
+    )
 
 returns : tie.Need-returns Inv-loop μ-loop
 returns c =
     let e : c .before .loop .k ≡ c .before .before .before .before .args .len = omega arith in
-    let w = rw e at (c .before .loop .inv .2) in
+    let w = rw e at (c .before .loop .inv .1) in
     w .total-is ∙ sym (window-walk _ _ _ _ _ _)
 
 pub add-window-spec : {M : Type 1} → statement M

@@ -1,0 +1,228 @@
+// The sums over a window's rows that the delays share, and each delay's sums from them.
+ghost use mathlib.Core.Path.{_≡_};
+ghost use Prim.Native.Nat.{_*_, _-_, _≤_, _<_};
+ghost use lib.Ieee.{binary32, add};
+ghost use Rattle.float.specs.Series.{at};
+ghost use Rattle.rows.specs.Rows.{each};
+ghost use Rattle.shared_sums.specs.Shared.{commonTerms, commonProduct, laggedProduct, pairProduct, commonSums, laggedSums, pairSums, sharedSums, pairAt, crossSum, placeOf, delaySums, fillFrom};
+use least_squares::Sums;
+
+// The sums over a window's rows that its delays share. The four common terms of a row are its last rate, that rate's change, 1 and the target.
+pub struct SharedSums {
+    // The i-th common term times the q-th, at 4 q + i.
+    pub common: [f32; 16],
+    // The q-th common term times the moment j ticks back, at 12 q + j.
+    pub lagged: [f32; 48],
+    // The moment j ticks back times itself, the one before it, and the one before that.
+    pub pairs0: [f32; 12],
+    pub pairs1: [f32; 12],
+    pub pairs2: [f32; 12],
+}
+
+// ---- the sums that the delays share
+
+fn common_terms(rates: &[f32; 2048], k: usize) -> [f32; 4]
+    requires { ⌜ (11 ≤ k) × (k < 2048) ⌝ }
+    ensures { λ r. ⌜ r ≡ commonTerms (now (rates .entry)) k ⌝ }
+{
+    let last = rates[k - 1];
+    [last, last - rates[k - 2], 1.0, rates[k] - last]
+}
+
+// The q-th common term times each.
+fn add_common_to(sums: &mut [f32; 16], terms: &[f32; 4], q: usize)
+    requires { ⌜ q < 4 ⌝ }
+    ensures { λ _. ⌜ now (sums .exit) ≡ fillFrom (4 * q) (λ n l. add binary32 (at l n) (commonProduct (now (terms .entry)) n)) (now (sums .entry)) 4 ⌝ }
+{
+    let term = terms[q];
+    for i in 0..4 {
+        sums[4 * q + i] = sums[4 * q + i] + terms[i] * term;
+    }
+}
+
+fn add_common(sums: &mut [f32; 16], terms: &[f32; 4])
+    ensures { λ _. ⌜ now (sums .exit) ≡ each 16 (λ n s. add binary32 s (commonProduct (now (terms .entry)) n)) (now (sums .entry)) ⌝ }
+{
+    for q in 0..4 {
+        add_common_to(&mut *sums, terms, q);
+    }
+}
+
+fn sum_common(rates: &[f32; 2048], held: &[bool; 2048], len: usize) -> [f32; 16]
+    requires { ⌜ len ≤ 2048 ⌝ }
+    ensures { λ r. ⌜ r ≡ commonSums (now (rates .entry)) (now (held .entry)) len ⌝ }
+{
+    let mut sums = [0.0f32; 16];
+    let mut run = 0;
+    for k in 0..len {
+        run = rows::next_run(held[k], run);
+        if run < rows::HISTORY {
+            continue;
+        }
+        let terms = common_terms(rates, k);
+        add_common(&mut sums, &terms);
+    }
+    sums
+}
+
+// The q-th common term times the twelve last moments.
+fn add_lagged_to(sums: &mut [f32; 48], terms: &[f32; 4], moments: &[f32; 2048], k: usize, q: usize)
+    requires { ⌜ (11 ≤ k) × (k < 2048) × (q < 4) ⌝ }
+    ensures { λ _. ⌜ now (sums .exit) ≡ fillFrom (12 * q) (λ n l. add binary32 (at l n) (laggedProduct (now (terms .entry)) (now (moments .entry)) k n)) (now (sums .entry)) 12 ⌝ }
+{
+    let term = terms[q];
+    for j in 0..12 {
+        sums[12 * q + j] = sums[12 * q + j] + term * moments[k - j];
+    }
+}
+
+fn add_lagged(sums: &mut [f32; 48], terms: &[f32; 4], moments: &[f32; 2048], k: usize)
+    requires { ⌜ (11 ≤ k) × (k < 2048) ⌝ }
+    ensures { λ _. ⌜ now (sums .exit) ≡ each 48 (λ n s. add binary32 s (laggedProduct (now (terms .entry)) (now (moments .entry)) k n)) (now (sums .entry)) ⌝ }
+{
+    for q in 0..4 {
+        add_lagged_to(&mut *sums, terms, moments, k, q);
+    }
+}
+
+fn sum_lagged(
+    rates: &[f32; 2048],
+    moments: &[f32; 2048],
+    held: &[bool; 2048],
+    len: usize,
+) -> [f32; 48]
+    requires { ⌜ len ≤ 2048 ⌝ }
+    ensures { λ r. ⌜ r ≡ laggedSums (now (rates .entry)) (now (moments .entry)) (now (held .entry)) len ⌝ }
+{
+    let mut sums = [0.0f32; 48];
+    let mut run = 0;
+    for k in 0..len {
+        run = rows::next_run(held[k], run);
+        if run < rows::HISTORY {
+            continue;
+        }
+        let terms = common_terms(rates, k);
+        add_lagged(&mut sums, &terms, moments, k);
+    }
+    sums
+}
+
+fn add_pairs(sums: &mut [f32; 12], moments: &[f32; 2048], o: usize, k: usize)
+    requires { ⌜ (11 ≤ k) × (k < 2048) × (o < 3) ⌝ }
+    ensures { λ _. ⌜ now (sums .exit) ≡ each (12 - o) (λ j s. add binary32 s (pairProduct (now (moments .entry)) o k j)) (now (sums .entry)) ⌝ }
+{
+    for j in 0..12 - o {
+        sums[j] = sums[j] + moments[k - j] * moments[k - j - o];
+    }
+}
+
+// Moments that stand o ticks apart.
+fn sum_pairs(moments: &[f32; 2048], held: &[bool; 2048], o: usize, len: usize) -> [f32; 12]
+    requires { ⌜ (len ≤ 2048) × (o < 3) ⌝ }
+    ensures { λ r. ⌜ r ≡ pairSums (now (moments .entry)) (now (held .entry)) o len ⌝ }
+{
+    let mut sums = [0.0f32; 12];
+    let mut run = 0;
+    for k in 0..len {
+        run = rows::next_run(held[k], run);
+        if run < rows::HISTORY {
+            continue;
+        }
+        add_pairs(&mut sums, moments, o, k);
+    }
+    sums
+}
+
+// Open for the recorded fit and its replay only.
+pub fn sum_shared(
+    rates: &[f32; 2048],
+    moments: &[f32; 2048],
+    held: &[bool; 2048],
+    len: usize,
+) -> SharedSums
+    requires { ⌜ len ≤ 2048 ⌝ }
+    ensures { λ r. ⌜ r ≡ sharedSums (now (rates .entry)) (now (moments .entry)) (now (held .entry)) len ⌝ }
+{
+    let common = sum_common(rates, held, len);
+    let lagged = sum_lagged(rates, moments, held, len);
+    let pairs0 = sum_pairs(moments, held, 0, len);
+    let pairs1 = sum_pairs(moments, held, 1, len);
+    let pairs2 = sum_pairs(moments, held, 2, len);
+    SharedSums {
+        common: common,
+        lagged: lagged,
+        pairs0: pairs0,
+        pairs1: pairs1,
+        pairs2: pairs2,
+    }
+}
+
+// ---- each delay's sums from them
+
+// The place of term i among a row's seven: four common ones, then the moments.
+fn place(i: usize) -> usize
+    requires { ⌜ i < 6 ⌝ }
+    ensures { λ r. ⌜ (r ≡ placeOf i) × (r < 7) ⌝ }
+{
+    if i < 2 {
+        return i;
+    }
+    if i < 5 {
+        return i + 2;
+    }
+    2
+}
+
+fn pair(shared: SharedSums, o: usize, j: usize) -> f32
+    requires { ⌜ j < 12 ⌝ }
+    ensures { λ r. ⌜ r ≡ pairAt shared o j ⌝ }
+{
+    if o == 0 {
+        return shared.pairs0[j];
+    }
+    if o == 1 {
+        return shared.pairs1[j];
+    }
+    shared.pairs2[j]
+}
+
+// The sum of the products at places a and b, at delay d.
+fn cross(shared: SharedSums, d: usize, a: usize, b: usize) -> f32
+    requires { ⌜ (1 ≤ d) × (d ≤ 10) × (a < 7) × (b < 7) ⌝ }
+    ensures { λ r. ⌜ r ≡ crossSum shared d a b ⌝ }
+{
+    if a < 4 {
+        if b < 4 {
+            return shared.common[4 * b + a];
+        }
+        return shared.lagged[12 * a + (d - 1 + (b - 4))];
+    }
+    if b < 4 {
+        return shared.lagged[12 * b + (d - 1 + (a - 4))];
+    }
+    if a <= b {
+        return pair(shared, b - a, d - 1 + (a - 4));
+    }
+    pair(shared, a - b, d - 1 + (b - 4))
+}
+
+// The sums of delay d, as `rows::add_window` makes them from none.
+// Open for the recorded fit and its replay only.
+pub fn delay_sums(shared: SharedSums, d: usize) -> Sums
+    requires { ⌜ (1 ≤ d) × (d ≤ 10) ⌝ }
+    ensures { λ r. ⌜ r ≡ delaySums shared d ⌝ }
+{
+    let mut normal = [0.0f32; 36];
+    for n in 0..36 {
+        normal[n] = cross(shared, d, place(n % 6), place(n / 6));
+    }
+    let mut projected = [0.0f32; 6];
+    for i in 0..6 {
+        projected[i] = cross(shared, d, place(i), 3);
+    }
+    Sums {
+        normal: normal,
+        projected: projected,
+        target_squared: cross(shared, d, 3, 3),
+    }
+}
