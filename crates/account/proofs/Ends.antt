@@ -1,5 +1,5 @@
 -- What an ended probe keeps: the delay, by the position that won, and at most 2,604 gain fits.
-use Prim.Native.Nat.{ℕ, zero, suc, _+_, _-_, _*_, _≤_}
+use Prim.Native.Nat.{ℕ, zero, suc, _+_, _-_, _≤_}
 use mathlib.Core.Path.{_≡_, refl, sym, ap, _∙_}
 use mathlib.Core.Bool.{Bool, true, false}
 use mathlib.Core.List.{List}
@@ -8,17 +8,15 @@ use lib.Dec.{leb}
 use lib.ListN.{length}
 use lib.Ieee.{Float, le}
 use Rattle.float.specs.Values.{zero32}
-use Rattle.delay.specs.declared.Delay.{Delay}
 use Rattle.delay.specs.declared.RateModel.{RateModel}
 use Rattle.delay.specs.declared.Position.{Position}
 use Rattle.delay.specs.declared.Position.the-variants.{Nowhere, At}
-use Rattle.delay.specs.HalfTicks.{ofRecorded, ofIntegrated}
 use Rattle.delay.specs.Tie.{delayToFit}
 use Rattle.least_squares.specs.declared.Solved.{Solved}
 use Rattle.least_squares.specs.declared.Solved.the-variants as solved
 use Rattle.recorded.specs.declared.Classified.{Classified}
 use Rattle.recorded.specs.declared.Classified.the-variants.{Recorded, Integrated, Unexcited, Saturated}
-use Rattle.recorded.specs.Classify.{fitAt, fitOf, classOf, classify, fitRecorded, quietOr, noisyClass, saturated, solvedAt, noisyResidual, rowsDt, tieShare, modelOf, atLeastOne}
+use Rattle.recorded.specs.Classify.{fitAt, fitOf, classOf, classify, fitRecorded, quietOr, noisyClass, saturated, solvedAt, noisyResidual, rowsDt, modelOf}
 use Rattle.recorded.specs.Classify as recorded
 use Rattle.window.specs.Walk.{many, isRow}
 use Rattle.float.specs.Root.{rooted}
@@ -27,12 +25,10 @@ use Rattle.gain.specs.Gain.{firstTick}
 use Rattle.integrated.specs.declared.Kept.{Kept}
 use Rattle.integrated.specs.declared.Kept.the-variants.{Empty, Best}
 use Rattle.integrated.specs.declared.LagFit.{LagFit}
-use Rattle.integrated.specs.declared.Fitted.{Fitted}
 use Rattle.integrated.specs.declared.Fitted.the-variants as fitted
 use Rattle.integrated.specs.Golden.{Round, over, on, tried, leftOf, rightOf, onward, golden, refined, maxRounds}
-use Rattle.integrated.specs.Integrated.{keptAt, modelled, noModel, chosenFrom, chosenAt, searched, windowFit, meanDt, fitLong, fitIntegrated, gridFits}
+use Rattle.integrated.specs.Integrated.{keptAt, modelled, noModel, chosenFrom, chosenAt, searched, windowFit, meanDt, fitLong, fitIntegrated}
 use Rattle.integrated.specs.Integrated as integrated
-use Rattle.account.specs.declared.IdentifyStatus.{IdentifyStatus}
 use Rattle.account.specs.declared.IdentifyStatus.the-variants as status
 use Rattle.account.specs.Probe.{finished, statusOf, stands}
 use Rattle.account.specs.Account.{Account, ratesOf, momentsOf, marksOf}

@@ -2,7 +2,7 @@
 use Prim.Native.Nat.{ℕ}
 use mathlib.Core.Path.{_≡_, refl}
 use mathlib.Core.Option.{none, some}
-use mathlib.Core.List.{List, [], _∷_, map}
+use mathlib.Core.List.{[], _∷_, map}
 use lib.Ieee.{Float, nan, binary32, ofBits, add, lt, eq, ofInt}
 use Rattle.float.specs.Values.{zero32, one32, whole32, finite}
 use Rattle.account.specs.declared.IdentifyConfig.{IdentifyConfig}

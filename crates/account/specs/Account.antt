@@ -13,7 +13,6 @@ use Rattle.recorded.specs.declared.Classified.{Classified}
 use Rattle.recorded.specs.declared.Classified.the-variants.{Recorded, Integrated, Unexcited, Saturated}
 use Rattle.recorded.specs.Classify.{classify}
 use Rattle.account.specs.declared.IdentifyConfig.{IdentifyConfig}
-use Rattle.account.specs.declared.IdentifyExtension.{IdentifyExtension}
 use Rattle.account.specs.declared.Noisy.{Noisy}
 use Rattle.account.specs.declared.Noisy.the-variants.{Absent, Present}
 use Rattle.account.specs.Rules.{refusal}

@@ -1,6 +1,6 @@
 -- Demand 3, one claim about every list of calls from a fresh probe: 01, "The account of a list of steps".
 -- p is the probe that the calls leave, and a the account of the same calls. `proofs/Theorem.antt` proves the claim for every configuration and every list.
-use Prim.Native.Nat.{ℕ, _+_, _-_, _*_, _≤_, _<_, min}
+use Prim.Native.Nat.{ℕ, _+_, _-_, _≤_, _<_, min}
 use mathlib.Core.Path.{_≡_}
 use mathlib.Core.Bool.{true}
 use mathlib.Core.List.{List, _++_, map}

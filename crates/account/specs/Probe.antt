@@ -15,7 +15,6 @@ use Rattle.integrated.specs.declared.Fitted.{Fitted}
 use Rattle.integrated.specs.declared.Fitted.the-variants as fitted
 use Rattle.integrated.specs.Integrated.{fitIntegrated}
 use Rattle.account.specs.declared.IdentifyConfig.{IdentifyConfig}
-use Rattle.account.specs.declared.IdentifyExtension.{IdentifyExtension}
 use Rattle.account.specs.declared.Noisy.{Noisy}
 use Rattle.account.specs.declared.Noisy.the-variants.{Absent, Present}
 use Rattle.account.specs.declared.IdentifyStatus.{IdentifyStatus}

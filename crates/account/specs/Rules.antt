@@ -1,12 +1,11 @@
 -- The rules that a configuration or a call can break, and the number of the first one broken: 01, "A call turned back".
 use Prim.Native.Nat.{ℕ}
-use mathlib.Core.Bool.{Bool, true, false, not, _&&_, _||_, cond}
+use mathlib.Core.Bool.{Bool, not, _&&_, _||_, cond}
 use mathlib.Core.Option.{Option, none, some}
 use lib.Dec.{leb}
 use lib.Ieee.{Float, binary32, add, lt, eq}
 use Rattle.float.specs.Values.{zero32, whole32, finite}
 use Rattle.account.specs.declared.IdentifyConfig.{IdentifyConfig}
-use Rattle.account.specs.declared.IdentifyExtension.{IdentifyExtension}
 use Rattle.account.specs.declared.Noisy.{Noisy}
 use Rattle.account.specs.declared.Noisy.the-variants.{Absent, Present}
 

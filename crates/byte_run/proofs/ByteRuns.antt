@@ -1,6 +1,6 @@
 -- A byte run, by its tests: the sizes, and what the configuration opens.
 use Prim.Native.Nat.{ℕ, zero, suc}
-use mathlib.Core.Path.{_≡_, refl, ap}
+use mathlib.Core.Path.{_≡_, refl}
 use mathlib.Core.Bool.{true, false}
 use mathlib.Core.List.{List}
 use native.Mathlib.Omega.{arith}
@@ -10,7 +10,7 @@ use Rattle.account.specs.Probe.{Call}
 use Rattle.identify.specs.declared.IdentifyProbe.{IdentifyProbe}
 use Rattle.identify.specs.declared.Opened.the-variants.{Probe, Refused}
 use Rattle.identify.specs.Seen.{freshProbe, openedBy}
-use Rattle.byte_run.specs.ByteRun.{Ran, configOf, callsOf, written, onto, sized, ran, runIf, byteRun}
+use Rattle.byte_run.specs.ByteRun.{configOf, callsOf, written, onto, sized, ran, runIf, byteRun}
 
 module _ (c : IdentifyConfig) (calls : List Call) (output : List ℕ) where
   turned-away : (b n : ℕ) → openedBy b c ≡ Refused n → ran b c calls output ≡ record { result = n; output = output }

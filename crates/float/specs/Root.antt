@@ -1,6 +1,6 @@
 -- The square root in f32: 01, "Stand-ins for libm and nalgebra". First a function that computes it, then, apart from it, what it is to be the nearest root.
 use Prim.Native.Nat.{ℕ, zero, suc, _+_, _-_, _*_, _/_, _^_, _≤_, _<_}
-use mathlib.Core.Bool.{Bool, true, false, cond}
+use mathlib.Core.Bool.{true, false, cond}
 use lib.Dec.{T, leb, ltb, eqb}
 use lib.Ieee.{Float, nan, inf, fin, binary32, up, down, size, units, round, le}
 use lib.Ieee.Positive.{num, den}

@@ -1,5 +1,5 @@
 -- Series of floats by place, sums in order, and lists that are filled entry by entry. What stands past the end of a list reads as NaN.
-use Prim.Native.Nat.{ℕ, zero, suc, _+_}
+use Prim.Native.Nat.{ℕ, zero, suc}
 use mathlib.Core.List.{List}
 use lib.ListN.{getD, set}
 use lib.Ieee.{Float, Format, nan, ofBits, add, mul}

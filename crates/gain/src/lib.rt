@@ -1,6 +1,6 @@
 // Gain fits: least squares of the integrated rate on the integrated lagged moment and a constant.
 ghost use mathlib.Core.Path.{_≡_};
-ghost use Prim.Native.Nat.{_+_, _*_, _-_, _≤_, min};
+ghost use Prim.Native.Nat.{_*_, _-_, _≤_, min};
 ghost use lib.Ieee.{binary32, binary64, add, sub, mul};
 ghost use Rattle.float.specs.Values.{one32, one64};
 ghost use Rattle.float.specs.Series.{at, dotTo, fill};

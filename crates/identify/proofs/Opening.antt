@@ -1,7 +1,6 @@
 -- A configuration that breaks a rule opens no probe.
 use Prim.Native.Nat.{ℕ, zero, suc}
 use mathlib.Core.Path.{_≡_, refl}
-use native.Mathlib.Omega.{arith}
 use Rattle.account.specs.declared.IdentifyConfig.{IdentifyConfig}
 use Rattle.identify.specs.declared.Opened.the-variants.{Refused}
 use Rattle.identify.specs.Seen.{openedBy}

@@ -1,6 +1,6 @@
 -- One accepted call, put together: the sweep's tick, the stored sample and the end of the tick make the definition's tick.
-use Prim.Native.Nat.{ℕ, suc, _+_}
-use mathlib.Core.Path.{_≡_, refl}
+use Prim.Native.Nat.{_+_}
+use mathlib.Core.Path.{_≡_}
 use mathlib.Core.List.{List}
 use mathlib.Core.Bool.{Bool}
 use native.Mathlib.Numerals.{add-one}
@@ -10,7 +10,7 @@ use Rattle.sweep.specs.Sweep.{nextSweep}
 use Rattle.window.specs.declared.Window.{Window}
 use Rattle.window.specs.Samples.{store}
 use Rattle.window.specs.Arrays.{samplesIn}
-use Rattle.account.specs.Probe.{Call, Step, close, tick}
+use Rattle.account.specs.Probe.{Call, close, tick}
 use Rattle.identify.specs.declared.IdentifyProbe.{IdentifyProbe}
 use Rattle.identify.specs.declared.Ending.{Ending}
 use Rattle.identify.specs.declared.Stepped.the-variants.{Offset}

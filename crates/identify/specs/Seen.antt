@@ -1,21 +1,16 @@
 -- The probe of the definitions, as it stands in the struct and in the arrays that are lent with it.
 use Prim.Native.Nat.{ℕ, zero, suc}
-use mathlib.Core.Bool.{Bool, true, false, cond}
-use mathlib.Core.Option.{Option, none, some}
+use mathlib.Core.Bool.{Bool, true}
 use mathlib.Core.List.{List}
 use lib.Ieee.{Float, binary32, add}
 use Rattle.float.specs.Values.{zero32}
-use Rattle.sweep.specs.declared.SquareSweep.{SquareSweep}
 use Rattle.sweep.specs.Sweep.{started, nextSweep}
-use Rattle.window.specs.declared.Window.{Window}
 use Rattle.window.specs.Samples.{bad}
 use Rattle.window.specs.Arrays.{storedOf, samplesIn, holdAt, putAt}
 use Rattle.account.specs.declared.IdentifyConfig.{IdentifyConfig}
-use Rattle.account.specs.declared.Noisy.{Noisy}
-use Rattle.account.specs.declared.IdentifyStatus.{IdentifyStatus}
-use Rattle.account.specs.declared.IdentifyStatus.the-variants.{Running, Done, Unexcited, Saturated}
-use Rattle.account.specs.Rules.{broken, refusal}
-use Rattle.account.specs.Probe.{Probe, Standing, Closing, Step, Reply, offset, refused}
+use Rattle.account.specs.declared.IdentifyStatus.the-variants.{Running}
+use Rattle.account.specs.Rules.{refusal}
+use Rattle.account.specs.Probe.{Probe, Standing, Closing, Step, offset, refused}
 use Rattle.rules.specs.declared.Clock.{Clock}
 use Rattle.rules.specs.declared.Clock.the-variants as clock
 use Rattle.rules.specs.Clock.{clockOf, timeOf}

@@ -136,7 +136,7 @@ const LAGS_S: [f32; 128] = [
 ];
 
 // Asked for a lag of the table only.
-pub fn lag(i: usize) -> f32
+fn lag(i: usize) -> f32
     requires { ⌜ i < lagCount ⌝ }
     ensures { λ r. ⌜ r ≡ lagOf i ⌝ }
 {

@@ -1,6 +1,6 @@
 -- The report, 36 bytes: 01, "The report".
 use Prim.Native.Nat.{ℕ, _+_, _*_, _%_, _^_}
-use mathlib.Core.Bool.{Bool, true, false, cond}
+use mathlib.Core.Bool.{cond}
 use mathlib.Core.Option.{Option, none, some}
 use mathlib.Core.List.{List, [], _∷_, _++_, map}
 use lib.ListN.{length}
@@ -9,7 +9,6 @@ use Rattle.float.specs.Values.{zero32}
 use Rattle.wire.specs.Words.{bytesOf, wordBytes, wordOf}
 use Rattle.window.specs.Walk.{many, isHeld, isWarm, isRow}
 use Rattle.window.specs.Runs.{heldOf, warmOf, rowsOf}
-use Rattle.delay.specs.declared.RateModel.{RateModel}
 use Rattle.delay.specs.HalfTicks.{wholeTicks}
 use Rattle.account.specs.declared.IdentifyStatus.{IdentifyStatus}
 use Rattle.account.specs.declared.IdentifyStatus.the-variants.{Running, Done, Unexcited, Saturated}

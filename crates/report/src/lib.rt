@@ -1,7 +1,7 @@
 // The report: what a probe says of itself, and its 36 bytes.
 ghost use mathlib.Core.Path.{_≡_};
 ghost use mathlib.Core.List.{List, map};
-ghost use Prim.Native.Nat.{_+_, _*_, _/_, _%_, _^_, _≤_};
+ghost use Prim.Native.Nat.{_+_, _/_, _%_, _^_, _≤_};
 ghost use lib.ListN.{length};
 ghost use Rattle.wire.specs.Words.{bytesOf, wordBytes, wordOf, writtenAt};
 ghost use Rattle.report.specs.Report.{kindOf, delayOf, floatsOf, fieldsOf, packed, reportBytes, onceEnded, ofProbe};

@@ -1,8 +1,8 @@
 -- Which rule is the first broken, by the tests in their order.
 use Prim.Native.Nat.{ℕ}
 use mathlib.Core.Path.{_≡_, refl}
-use mathlib.Core.Bool.{Bool, true, false, not, _||_, cond}
-use mathlib.Core.Option.{Option, none, some}
+use mathlib.Core.Bool.{Bool, true, false, not, _||_}
+use mathlib.Core.Option.{Option}
 use lib.Ieee.{Float, lt}
 use Rattle.float.specs.Values.{finite}
 use Rattle.account.specs.declared.IdentifyConfig.{IdentifyConfig}

@@ -1,19 +1,19 @@
 -- No call at an elapsed time up to 4,096 s reaches the last edge, so the bounded count of edges is 01's unbounded loop.
 -- Each half period is at least an eighth of a second, and eighths are exact: after n edges the next one is at (n + 1)/8 s or later, however the sums are rounded.
 use Prim.Native.Nat.{ℕ, zero, suc, _+_, _-_, _*_, _%_, _^_, _≤_, _<_}
-use mathlib.Core.Path.{_≡_, refl, sym, ap, _∙_, subst}
+use mathlib.Core.Path.{_≡_, refl, sym, _∙_}
 use mathlib.Core.Bool.{Bool, true, false, _&&_, cond, true≢false}
 use native.Mathlib.Omega.{arith}
 use native.Mathlib.Numerals.{add-one}
 use borrow.Author.Tests.{lt-ltb}
 use native.Mathlib.Nat.{lt-of-lt-of-le, mul-pos, mul-le-mul-right, mul-assoc, mul-comm, mul-left-comm, add-mul, one-mul, mod-lt}
-use lib.Dec.{T, ltb, ltb→lt, nltb→le, lt→ltb, lit<, lit≤}
+use lib.Dec.{T, ltb, ltb→lt, nltb→le, lit<, lit≤}
 use lib.Pow.{shl-lt}
 use lib.Ieee.{Float, nan, inf, fin, binary32, up, down, ofBits, ofInt, round, sum, add, sub, mul, lt, le}
 use lib.Ieee.Fits.{and-l, and-r, down-pos}
 use lib.Ieee.Exact.{HasValue, round-exact}
 use lib.Ieee.Order.{round-mono}
-use lib.Ieee.Positive.{num, den, den-pos, positive, positive-of-value, values-of-le, own-value, le-trans-positive, above, above-of-le, between}
+use lib.Ieee.Positive.{num, den, den-pos, positive, positive-of-value, values-of-le, own-value, le-trans-positive, above, above-of-le}
 use Rattle.float.specs.Values.{one32, whole32}
 use Rattle.sweep.specs.declared.SquareSweep.{SquareSweep}
 use Rattle.sweep.specs.Sweep.{halfPeriod, tenth, sixTenths, started, passEdge, due, passDue, passEdges, lastEdge, While, stop, pass, withWashout, withAmplitude, swept, nextSweep}

@@ -1,12 +1,12 @@
 -- What is read and written in the lent arrays is what the list of samples says.
-use Prim.Native.Nat.{ℕ, zero, suc, _-_, _≤_, _<_, min}
-use mathlib.Core.Path.{_≡_, refl, sym, ap, _∙_}
+use Prim.Native.Nat.{ℕ, zero, suc, _-_, _≤_, _<_}
+use mathlib.Core.Path.{_≡_, refl}
 use mathlib.Core.Bool.{Bool, true, false, cond}
 use mathlib.Core.List.{List, [], _∷_, _++_}
 use native.Mathlib.Omega.{arith}
 use borrow.Author.Tests.{lt-ltb, le-ltb}
 use lib.Dec.{ltb, ltb→lt, nltb→le}
-use lib.ListN.{length, take, set, getD}
+use lib.ListN.{length, take, set}
 use lib.Seq.{length-take-le, take-suc, take-suc-set}
 use lib.Ieee.{Float, nan, binary32, add}
 use Rattle.float.specs.Values.{zero32, finite}

@@ -1,8 +1,7 @@
 -- M10 to M12 of 01: good and bad samples, as marks.
-use Prim.Native.Nat.{ℕ}
 use mathlib.Core.Path.{_≡_, refl}
 use mathlib.Core.Bool.{Bool, true, false}
-use mathlib.Core.List.{List, [], _∷_, _++_}
+use mathlib.Core.List.{List, _∷_, _++_}
 use lib.ListN.{replicate, length}
 use Rattle.window.specs.Runs.{goodRuns, runsFrom, heldOf, rowsOf, warmOf}
 

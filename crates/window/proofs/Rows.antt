@@ -10,7 +10,7 @@ use lib.Dec.{T, leb, leb·zero, leb·suc-zero, leb·suc-suc}
 use lib.ListN.{length, drop, length-append, length-take, length-drop}
 use lib.Seq.{drop-nil, append-snoc, getD-append-seam}
 use Rattle.window.specs.Walk.{run, over, many, markAt, Clear, isHeld, isWarm, isRow}
-use Rattle.window.specs.Runs.{runsFrom, goodRuns, heldOf, rowsOf, warmOf, beyond}
+use Rattle.window.specs.Runs.{runsFrom, heldOf, rowsOf, warmOf, beyond}
 
 one-more : {A : Type 0} (r : List A) (k : A) → length (r ++ (k ∷ [])) ≡ suc (length r)
 one-more r k = simp length-append (omega arith)

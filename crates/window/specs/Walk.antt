@@ -1,7 +1,7 @@
 -- A walk over the stored ticks that counts the good ones in a row: 01, "The recorded fit" and "The report". A loop goes over the ticks in this way.
 use Prim.Native.Nat.{ℕ, zero, suc}
 use mathlib.Core.Path.{_≡_}
-use mathlib.Core.Bool.{Bool, true, false, not, _&&_, cond}
+use mathlib.Core.Bool.{Bool, false, not, _&&_, cond}
 use mathlib.Core.List.{List}
 use lib.Dec.{leb}
 use lib.ListN.{length, getD}

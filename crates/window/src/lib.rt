@@ -1,6 +1,6 @@
 // The window of recorded ticks. Its samples stand in arrays that the caller lends; the rest is here, by value.
 ghost use mathlib.Core.Path.{_≡_};
-ghost use Prim.Native.Nat.{_≤_, _<_};
+ghost use Prim.Native.Nat.{_<_};
 ghost use Rattle.float.specs.Values.{zero32};
 ghost use Rattle.window.specs.Samples.{bad};
 ghost use Rattle.window.specs.Arrays.{storedOf, holdAt, putAt, nextWindow, countsTo, tallied};

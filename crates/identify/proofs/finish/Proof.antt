@@ -1,5 +1,4 @@
 -- `finish` is `finished`, an arm each.
-use mathlib.Core.Path.{_∙_}
 use borrow.Author.Needs.{needs}
 use Rattle.account.specs.Probe.{finished}
 use Rattle.identify.specs.Seen.{standingOf}

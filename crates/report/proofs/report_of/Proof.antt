@@ -1,5 +1,5 @@
 -- `report_of` fills the fields of the report of the probe that is seen; its counts are those of the stored ticks.
-use mathlib.Core.Path.{_≡_, sym}
+use mathlib.Core.Path.{sym}
 use borrow.Author.Needs.{needs}
 use Rattle.window.specs.Arrays.{countsTo}
 use Rattle.report.proofs.Counting.{counted}

@@ -1,5 +1,4 @@
 use borrow.Author.Needs.{needs}
-use native.Mathlib.Omega.{arith}
 use Rattle.account.specs.Rules.{nonZero}
 use borrow.Author.Needs.{needs}
 use Rattle.rules.proofs.is_bad_amplitude.Statement.{statement}

@@ -1,5 +1,4 @@
 use borrow.Author.Needs.{needs}
-use native.Mathlib.Omega.{arith}
 use borrow.Author.Needs.{needs}
 use Rattle.rules.proofs.is_bad_time.Statement.{statement}
 use Rattle.rules.proofs.is_bad_time.Tie as tie

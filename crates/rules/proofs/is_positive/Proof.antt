@@ -1,5 +1,4 @@
 use borrow.Author.Needs.{needs}
-use native.Mathlib.Omega.{arith}
 use Rattle.account.specs.Rules.{positive}
 use borrow.Author.Needs.{needs}
 use Rattle.rules.proofs.is_positive.Statement.{statement}

@@ -1,11 +1,11 @@
 -- The loop's invariant: the tally is that of the ticks passed. The measure is the ticks left.
 use Prim.Native.Nat.{_-_, _≤_}
-use mathlib.Core.Path.{_≡_, refl, sym, ap, _∙_}
+use mathlib.Core.Path.{_≡_, refl}
 use native.Mathlib.Omega.{arith}
 use native.Mathlib.Numerals.{add-one}
 use borrow.Author.Needs.{needs}
 use Rattle.window.specs.Walk.{run, over}
-use Rattle.window.specs.Arrays.{storedOf, countsTo, tallyTo, manyTo, tallied}
+use Rattle.window.specs.Arrays.{storedOf, countsTo, tallyTo, manyTo}
 use Rattle.window.proofs.Tallies.{few, tally-next}
 use Rattle.window.proofs.count_ticks.Statement.{statement}
 use Rattle.window.proofs.count_ticks.Tie as tie
