@@ -22,12 +22,13 @@ use Rattle.window.specs.Walk.{many, isRow}
 use Rattle.float.specs.Root.{rooted}
 use Rattle.gain.specs.declared.GainFit.{GainFit}
 use Rattle.gain.specs.Gain.{firstTick}
-use Rattle.integrated.specs.declared.Kept.{Kept}
-use Rattle.integrated.specs.declared.Kept.the-variants.{Empty, Best}
-use Rattle.integrated.specs.declared.LagFit.{LagFit}
+use Rattle.grid.specs.declared.Kept.{Kept}
+use Rattle.grid.specs.declared.Kept.the-variants.{Empty, Best}
+use Rattle.grid.specs.declared.LagFit.{LagFit}
 use Rattle.integrated.specs.declared.Fitted.the-variants as fitted
 use Rattle.integrated.specs.Golden.{Round, over, on, tried, leftOf, rightOf, onward, golden, refined, maxRounds}
-use Rattle.integrated.specs.Integrated.{keptAt, modelled, noModel, chosenFrom, chosenAt, searched, windowFit, meanDt, fitLong, fitIntegrated}
+use Rattle.grid.specs.Grid.{keptAt}
+use Rattle.integrated.specs.Integrated.{modelled, noModel, chosenFrom, chosenAt, searched, windowFit, meanDt, fitLong, fitIntegrated}
 use Rattle.integrated.specs.Integrated as integrated
 use Rattle.account.specs.declared.IdentifyStatus.the-variants as status
 use Rattle.account.specs.Probe.{finished, statusOf, stands}

@@ -22,7 +22,8 @@ use Rattle.recorded.specs.Classify.{tieShare, solvedAt}
 use Rattle.recorded.specs.Classify as recorded
 use Rattle.lags.specs.Lags.{lagged}
 use Rattle.gain.specs.Gain.{firstTick, stepCount, wholeTicksOf, isHalf, blend, regressor}
-use Rattle.integrated.specs.Integrated.{keptAt, windowFit, meanDt}
+use Rattle.grid.specs.Grid.{keptAt}
+use Rattle.integrated.specs.Integrated.{windowFit, meanDt}
 use Rattle.integrated.specs.Integrated as integrated
 use Rattle.account.specs.declared.IdentifyConfig.{IdentifyConfig}
 use Rattle.account.specs.declared.IdentifyStatus.the-variants.{Done}

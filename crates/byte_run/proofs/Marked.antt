@@ -12,7 +12,7 @@ use Rattle.account.specs.Probe.{clock, fresh, finished, stands, takes, extend, 
 use Rattle.account.specs.Rules.{positive, nonZero, tooLong, brokenExtension, broken, overrun, refusal}
 use Rattle.recorded.specs.Classify.{effectOf, entryOf, modelOf, fitAt, fitOf, entries, solvedAt, rowsDt, fitRecorded, classOf, classify}
 use Rattle.rows.specs.Rows.{target, regressors, product, projection, each, sumsBy, noSums, sumRows, windowSums}
-use Rattle.least_squares.specs.Cholesky.{fillDown, less, reduced, factorEntry, factor, above, forwardEntry, forward, backwardEntry, backward}
+use Rattle.cholesky.specs.Cholesky.{fillDown, less, reduced, factorEntry, factor, above, forwardEntry, forward, backwardEntry, backward}
 use Rattle.least_squares.specs.Solve.{dot, residualOf, allFinite, kept, solveIf, solveWith, solve}
 use Rattle.delay.specs.Tie.{considered, residuals, lesser, leastTo, within, firstFrom, underBar, shortestTied, delayToFit}
 use Rattle.window.specs.Walk.{run, over, many}

@@ -17,12 +17,19 @@ use Rattle.gain.specs.declared.GainFit.{GainFit}
 use Rattle.gain.specs.declared.Shared.{Shared}
 use Rattle.gain.specs.Gain.{firstTick, stepCount, gainFit}
 use Rattle.gain.specs.Prepared.{fitAt, Prepared}
+use Rattle.gain.proofs.Fill.{fill-same}
 use Rattle.gain.proofs.Window.{window-fit}
-use Rattle.integrated.specs.declared.Kept.{Kept}
-use Rattle.integrated.specs.declared.Kept.the-variants.{Empty}
-use Rattle.integrated.specs.Integrated.{keptAt, entryOf, entries, gridFits, noModel, chosenFrom, chosenAt, searched, windowFit}
-use Rattle.integrated.specs.Steps.{tableOf}
-use Rattle.integrated.proofs.Tables.{table-at, entries-of}
+use Rattle.grid.specs.declared.Kept.{Kept}
+use Rattle.grid.specs.declared.Kept.the-variants.{Empty}
+use Rattle.grid.specs.Grid.{keptAt}
+use Rattle.integrated.specs.Integrated.{entryOf, entries, gridFits, noModel, chosenFrom, chosenAt, searched, windowFit}
+use Rattle.grid.specs.Steps.{tableOf}
+use Rattle.grid.proofs.Tables.{table-at}
+
+-- the tie rule's list of a table
+entries-of : (kept : ℕ → Kept) → fill (λ s l. entryOf (getD (tableOf kept) s Empty)) (replicate entryCount Missing) stepCount ≡ entries kept
+unfolding entries
+entries-of kept = fill-same _ _ (replicate entryCount Missing) stepCount (λ s l p. ap entryOf (table-at kept s p))
 
 -- with the leaky series prepared, the fit at each step and pole is the window's
 pub window-is : (rates moments : List Float) (dt carry : Float) (n : ℕ) (cs₀ ts₀ cs ts : List Float) (w : Shared) → n - firstTick ≤ length cs₀ → n - firstTick ≤ length ts₀

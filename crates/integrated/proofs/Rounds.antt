@@ -7,7 +7,7 @@ use native.Mathlib.Numerals.{add-one}
 use lib.Ieee.{Float, lt}
 use Rattle.gain.specs.declared.GainFit.{GainFit}
 use Rattle.gain.specs.declared.GainFit.the-variants.{Nothing, Fit}
-use Rattle.integrated.specs.declared.LagFit.{LagFit}
+use Rattle.grid.specs.declared.LagFit.{LagFit}
 use Rattle.integrated.specs.Golden.{golden, tried, betterOf, leftOf, rightOf, maxRounds}
 
 pub done : (fit : Float → GainFit) (r : ℕ) (low high : Float) (best : LagFit) → maxRounds ≤ r

@@ -4,7 +4,7 @@ use mathlib.Core.Bool.{Bool, true, false}
 use lib.Ieee.{Float, binary32, add, sub, mul, lt, ofBits}
 use Rattle.gain.specs.declared.GainFit.{GainFit}
 use Rattle.gain.specs.declared.GainFit.the-variants.{Nothing, Fit}
-use Rattle.integrated.specs.declared.LagFit.{LagFit}
+use Rattle.grid.specs.declared.LagFit.{LagFit}
 use Rattle.integrated.specs.declared.Refined.{Refined}
 
 -- 0.618034

@@ -15,20 +15,16 @@ use Rattle.delay.specs.declared.Position.the-variants.{Nowhere, At}
 use Rattle.delay.specs.HalfTicks.{ofIntegrated}
 use Rattle.delay.specs.Tie.{delayToFit, entryCount}
 use Rattle.gain.specs.declared.GainFit.{GainFit}
-use Rattle.integrated.specs.declared.LagFit.{LagFit}
-use Rattle.integrated.specs.declared.Kept.{Kept}
-use Rattle.integrated.specs.declared.Kept.the-variants.{Empty, Best}
+use Rattle.grid.specs.declared.LagFit.{LagFit}
+use Rattle.grid.specs.declared.Kept.{Kept}
+use Rattle.grid.specs.declared.Kept.the-variants.{Empty, Best}
 use Rattle.integrated.specs.declared.Refined.{Refined}
 use Rattle.integrated.specs.declared.Fitted.the-variants.{Nothing, Model}
 use Rattle.integrated.specs.declared.IntegratedFit.{IntegratedFit}
-use Rattle.lags.specs.Lags.{lagCount, poleOf, carryOf}
+use Rattle.lags.specs.Lags.{lagCount, carryOf}
 use Rattle.gain.specs.Gain.{firstTick, stepCount, isHalf, gainFit}
-use Rattle.integrated.specs.Grid.{keptTo, candidates}
+use Rattle.grid.specs.Grid.{keptAt}
 use Rattle.integrated.specs.Golden.{refined}
-
--- the candidate that each step keeps, of the 129 poles 0 to 128
-unfoldable pub keptAt : Float → (ℕ → Float → GainFit) → ℕ → Kept
-keptAt dt fit s = keptTo (candidates (poleOf dt) lagCount (fit s)) (suc lagCount)
 
 -- "The tie rule with gain as effect"
 unfoldable pub entryOf : Kept → Entry

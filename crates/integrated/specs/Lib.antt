@@ -1,4 +1,2 @@
-pub mod Grid
 pub mod Golden
 pub mod Integrated
-pub mod Steps

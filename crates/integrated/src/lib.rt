@@ -5,34 +5,20 @@ ghost use lib.ListN.{length, take, getD, replicate};
 ghost use Rattle.float.specs.Series.{at, fill};
 ghost use Rattle.delay.specs.declared.Entry.the-variants as entry;
 ghost use Rattle.delay.specs.Tie.{entryCount};
-ghost use Rattle.lags.specs.Lags.{lagCount, poleOf};
 ghost use Rattle.gain.specs.Gain.{firstTick, stepCount, isHalf};
 ghost use Rattle.gain.specs.Prepared.{fitAt, Totals};
-ghost use Rattle.integrated.specs.Grid.{candidate, keepOf, highEnd};
 ghost use Rattle.integrated.specs.Golden.{betterOf, maxRounds, refined};
-ghost use Rattle.integrated.specs.Integrated.{keptAt, entryOf, newerShare, olderShare, modelOf, modelled as modelledOf, noModel, chosenFrom, searched, windowFit, fitIntegrated};
-ghost use Rattle.integrated.specs.Steps.{against, tableOf};
+ghost use Rattle.integrated.specs.Integrated.{entryOf, newerShare, olderShare, modelOf, modelled as modelledOf, noModel, chosenFrom, searched, windowFit, fitIntegrated};
+ghost use Rattle.grid.specs.Steps.{tableOf};
+ghost use Rattle.grid.specs.Grid.{keptAt};
 use delay::Delay;
 use delay::Entry;
 use delay::Position;
 use delay::RateModel;
 use gain::GainFit;
 use gain::Shared;
-
-// A candidate: its pole, the ends of the bracket around it, its gain and its residual.
-pub struct LagFit {
-    pub pole: f32,
-    pub low: f32,
-    pub high: f32,
-    pub gain: f32,
-    pub residual: f32,
-}
-
-// The candidate that a step keeps, or none yet.
-pub enum Kept {
-    Empty,
-    Best(LagFit),
-}
+use grid::Kept;
+use grid::LagFit;
 
 // What the refinement yields: the best candidate and the rounds made.
 pub struct Refined {
@@ -49,95 +35,6 @@ pub enum Fitted {
 pub struct IntegratedFit {
     pub fitted: Fitted,
     pub gain_fits: u32,
-}
-
-// ---- the grid
-
-// The first fit is kept until a strictly smaller residual replaces it.
-fn keep(kept: Kept, pole: f32, low: f32, high: f32, fit: GainFit) -> Kept
-    ensures { λ r. ⌜ r ≡ keepOf kept (candidate pole low high fit) ⌝ }
-{
-    let GainFit::Fit(gain, residual) = fit else {
-        return kept;
-    };
-    let next = LagFit {
-        pole,
-        low,
-        high,
-        gain,
-        residual,
-    };
-    let Kept::Best(best) = kept else {
-        return Kept::Best(next);
-    };
-    if residual < best.residual {
-        Kept::Best(next)
-    } else {
-        kept
-    }
-}
-
-// What each step keeps, against its fit at one more pole: pole q, 0 to 2, of those that the fits are of.
-fn keep_each(
-    kept: [Kept; 20],
-    pole: f32,
-    low: f32,
-    high: f32,
-    fits: [GainFit; 60],
-    q: usize,
-) -> [Kept; 20]
-    requires { ⌜ q ≤ 2 ⌝ }
-    ensures { λ r. ⌜ r ≡ fill (against pole low high fits q) kept stepCount ⌝ }
-{
-    let mut next = kept;
-    for s in 0..20usize {
-        let k = next[s];
-        let fit = fits[s / 2 * 6 + (q * 2 + s % 2)];
-        next[s] = keep(k, pole, low, high, fit);
-    }
-    next
-}
-
-// The pole above pole i, or pole i itself where it is the last. Asked of one of the 129 poles only.
-fn next_pole(dt_s: f32, i: usize, pole: f32) -> f32
-    requires { ⌜ (i ≤ lagCount) × (pole ≡ poleOf «dt_s» i) ⌝ }
-    ensures { λ r. ⌜ r ≡ highEnd (poleOf «dt_s») lagCount i ⌝ }
-{
-    if i < 128 {
-        return lags::pole(dt_s, i + 1);
-    }
-    pole
-}
-
-// What each step keeps of all poles, three of them at a time, from a window's moments, its leaky series and their sums.
-fn grid(
-    moments: &[f32; 2048],
-    cs: &[f64; 2048],
-    ts: &[f64; 2048],
-    w: Shared,
-    dt_s: f32,
-) -> [Kept; 20]
-    requires { ⌜ (w .ticks ≤ 2037) × Totals (at (now cs)) (at (now ts)) w ⌝ }
-    ensures { λ r. ⌜ r ≡ tableOf (keptAt «dt_s» (fitAt (w .carry) (at (now (moments .entry))) (at (now (cs .entry))) (at (now (ts .entry))) (w .ticks))) ⌝ }
-{
-    let len = w.ticks + 11;
-    let mut kept = [Kept::Empty; 20];
-    let mut xs = [0.0f64; 12288];
-    let mut low = 0.0f32;
-    let mut pole = 0.0f32;
-    for i in 0..43usize {
-        let second = next_pole(dt_s, i * 3, pole);
-        let third = next_pole(dt_s, i * 3 + 1, second);
-        let high = next_pole(dt_s, i * 3 + 2, third);
-        gain::lag_through(moments, [pole, second, third], len, &mut xs);
-        let fits = kernel::fit_steps(&xs, cs, ts, w);
-        let one = keep_each(kept, pole, low, second, fits, 0);
-        let two = keep_each(one, second, pole, third, fits, 1);
-        kept = keep_each(two, third, second, high, fits, 2);
-        low = third;
-        pole = high;
-    }
-    kept
 }
 
 // ---- the refinement
@@ -318,7 +215,7 @@ fn search(
     requires { ⌜ (w .ticks ≤ 2037) × Totals (at (now cs)) (at (now ts)) w ⌝ }
     ensures { λ r. ⌜ r ≡ searched «dt_s» (fitAt (w .carry) (at (now (moments .entry))) (at (now (cs .entry))) (at (now (ts .entry))) (w .ticks)) ⌝ }
 {
-    let kept = grid(moments, cs, ts, w, dt_s);
+    let kept = grid::keep_poles(moments, cs, ts, w, dt_s);
     let position = delay::delay_to_fit(entries(kept), 0.0);
     match position {
         Position::Nowhere => no_model(2580),
@@ -348,7 +245,7 @@ pub fn keep_window(rates: &[f32; 2048], moments: &[f32; 2048], n: usize, dt_s: f
     let mut cs = [0.0f64; 2048];
     let mut ts = [0.0f64; 2048];
     let w = gain::prepare(rates, carry, n - 11, &mut cs, &mut ts);
-    grid(moments, &cs, &ts, w, dt_s)
+    grid::keep_poles(moments, &cs, &ts, w, dt_s)
 }
 
 // The stored count, at most the 2,048 that a window holds.

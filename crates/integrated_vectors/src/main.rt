@@ -2,8 +2,8 @@
 // each file has and how many of them agree. Words are big-endian; an expected NaN is 7FC00000.
 use delay::RateModel;
 use gain::GainFit;
+use grid::Kept;
 use integrated::Fitted;
-use integrated::Kept;
 use vectors::Tally;
 use vectors::double_at;
 use vectors::float_at;

@@ -12,10 +12,10 @@ use lib.Ieee.{Float, lt}
 use Rattle.float.specs.Values.{zero32}
 use Rattle.least_squares.specs.declared.Sums.{Sums}
 use Rattle.least_squares.specs.declared.Solved.the-variants.{NoFit}
-use Rattle.least_squares.specs.Cholesky.{entryAt, reduced, factor, above}
-use Rattle.least_squares.specs.ColumnOrder.{Matrix, lessColumn, lessColumns, rootedColumn, columnsDone, testedDiagonal}
+use Rattle.cholesky.specs.Cholesky.{entryAt, reduced, factor, above}
+use Rattle.cholesky.specs.ColumnOrder.{Matrix, lessColumn, lessColumns, rootedColumn, columnsDone, testedDiagonal}
 use Rattle.least_squares.specs.Solve.{solveIf, solveWith, solve}
-use Rattle.least_squares.proofs.Textbook.{on-diagonal, below-diagonal}
+use Rattle.cholesky.proofs.Textbook.{on-diagonal, below-diagonal}
 
 -- another column is left as it is
 other : (j : ℕ) (m : Matrix) (k i c : ℕ) → (c ≡ j → ⊥) → lessColumns j m k i c ≡ m i c

@@ -1,3 +1,1 @@
-pub mod Fill
-pub mod Textbook
 pub mod ColumnOrder

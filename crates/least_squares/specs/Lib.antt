@@ -1,3 +1,1 @@
-pub mod Cholesky
 pub mod Solve
-pub mod ColumnOrder

@@ -9,7 +9,7 @@ use Rattle.least_squares.specs.declared.Sums.{Sums}
 use Rattle.least_squares.specs.declared.Solution.{Solution}
 use Rattle.least_squares.specs.declared.Solved.{Solved}
 use Rattle.least_squares.specs.declared.Solved.the-variants.{NoFit, Fit}
-use Rattle.least_squares.specs.Cholesky.{factor, above, forward, backward}
+use Rattle.cholesky.specs.Cholesky.{factor, above, forward, backward}
 
 -- "Dots run left to right"
 unfoldable pub dot : List Float → List Float → Float

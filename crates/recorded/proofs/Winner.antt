@@ -16,7 +16,7 @@ use Rattle.delay.specs.Tie.{entryCount, delayToFit}
 use Rattle.delay.proofs.Winner.{won}
 use Rattle.least_squares.specs.declared.Solved.{Solved}
 use Rattle.least_squares.specs.declared.Solved.the-variants.{NoFit}
-use Rattle.least_squares.proofs.Fill.{fill-at, fill-past}
+use Rattle.cholesky.proofs.Fill.{fill-at, fill-past}
 use Rattle.recorded.specs.Classify.{maxDelay, entryOf, entries}
 use Rattle.recorded.specs.Stages.{solvedList}
 

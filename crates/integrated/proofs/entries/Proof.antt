@@ -8,7 +8,7 @@ use borrow.Author.Needs.{needs}
 use Rattle.float.specs.Series.{fill}
 use Rattle.gain.specs.Gain.{stepCount}
 use Rattle.gain.proofs.Fill.{fill-more}
-use Rattle.integrated.specs.declared.Kept.the-variants.{Empty}
+use Rattle.grid.specs.declared.Kept.the-variants.{Empty}
 use Rattle.integrated.specs.Integrated.{entryOf}
 use Rattle.integrated.proofs.entries.Statement.{statement}
 use Rattle.integrated.proofs.entries.Tie as tie

@@ -22,15 +22,15 @@ sub-prepare c = search needs
 prepare-requires : tie.Need-prepare-requires
 prepare-requires c κs = search needs
 
-grid-requires : tie.Need-grid-requires
-grid-requires c κs = search needs
+keep-poles-requires : tie.Need-keep-poles-requires
+keep-poles-requires c κs = search needs
 
 returns : tie.Need-returns
 returns c =
     let p = c .before .before .before in let z = p .before .before .before in let s = z .before .before in let a = s .args in
     let h : a .n - firstTick ≤ length (replicate 2048 zero64) = rw length-replicate (omega (arith, s .pre)) in
     let e = window-is (a .rates .now) (a .moments .now) (a .dt-s) _ (a .n) _ _ _ _ _ h h (z .f32-to-f64-with-nan .ensures ∙ z .before .carry .ensures) (p .prepare .ensures) in
-    rw (← e) (c .grid .ensures)
+    rw (← e) (c .keep-poles .ensures)
 
 pub keep-window-spec : {M : Type 1} → statement M
 keep-window-spec =
@@ -40,5 +40,5 @@ keep-window-spec =
     f32-to-f64-with-nan-requires
     sub-prepare
     prepare-requires
-    grid-requires
+    keep-poles-requires
     returns)

@@ -7,8 +7,8 @@ use Rattle.integrated.proofs.Choice.{nowhere, at-position}
 use Rattle.integrated.proofs.search.Statement.{statement}
 use Rattle.integrated.proofs.search.Tie as tie
 
-grid-requires : tie.Need-grid-requires
-grid-requires c κs = search needs
+keep-poles-requires : tie.Need-keep-poles-requires
+keep-poles-requires c κs = search needs
 
 entries-requires : tie.Need-entries-requires
 entries-requires c κs = search needs
@@ -34,18 +34,18 @@ choose-requires c κs =
 returns : tie.Need-returns
 returns c =
     let d = c .before .before .before in let g = d .before .before in
-    c .no-model .ensures ∙ nowhere _ _ _ _ (g .grid .ensures) (d .before .entries .ensures) (sym (d .delay-to-fit .ensures) ∙ c .before .enum-told .given .1)
+    c .no-model .ensures ∙ nowhere _ _ _ _ (g .keep-poles .ensures) (d .before .entries .ensures) (sym (d .delay-to-fit .ensures) ∙ c .before .enum-told .given .1)
 
 returns-2 : tie.Need-returns-2
 returns-2 c =
     let k = c .before .before in let d = k .before .before in let g = d .before .before in
-    c .choose .ensures ∙ at-position _ _ _ _ (g .grid .ensures) (d .before .entries .ensures) _ (sym (d .delay-to-fit .ensures) ∙ k .position .given .1)
+    c .choose .ensures ∙ at-position _ _ _ _ (g .keep-poles .ensures) (d .before .entries .ensures) _ (sym (d .delay-to-fit .ensures) ∙ k .position .given .1)
 
 pub search-spec : {M : Type 1} → statement M
 search-spec =
     tie.close
     (tie.spec
-    grid-requires
+    keep-poles-requires
     entries-requires
     delay-to-fit-requires
     enum-told

@@ -1,0 +1,42 @@
+-- `cholesky::factor_entry` meets its contract: above, on and below the diagonal are the definition's three cases.
+use borrow.Author.Needs.{needs}
+use borrow.Author.Tests.{lt-ltb, le-ltb, eq-eqb, ne-eqb}
+use Rattle.cholesky.specs.Cholesky.{factorEntry}
+use Rattle.cholesky.proofs.factor_entry.Statement.{statement}
+use Rattle.cholesky.proofs.factor_entry.Tie as tie
+
+returns : tie.Need-returns
+unfolding factorEntry
+returns c = simp (lt-ltb _ _ (c .if1 .taken))
+
+entry-requires : tie.Need-entry-requires
+entry-requires c κs = search needs
+
+reduced-entry-requires : tie.Need-reduced-entry-requires
+reduced-entry-requires c κs = search needs
+
+root-requires : tie.Need-root-requires
+root-requires c κs = search needs
+
+returns-2 : tie.Need-returns-2
+unfolding factorEntry
+returns-2 c = simp (le-ltb _ _ (c .before .before .before .before .if1 .left), eq-eqb _ _ (c .before .if2 .taken)) (cc)
+
+entry-requires-2 : tie.Need-entry-requires-2
+entry-requires-2 c κs = search needs
+
+returns-3 : tie.Need-returns-3
+unfolding factorEntry
+returns-3 c = simp (le-ltb _ _ (c .before .before .before .before .if1 .left), ne-eqb _ _ (c .before .if2 .left)) (cc)
+
+pub factor-entry-spec : {M : Type 1} → statement M
+factor-entry-spec =
+    tie.close
+    (tie.spec
+    returns
+    entry-requires
+    reduced-entry-requires
+    root-requires
+    returns-2
+    entry-requires-2
+    returns-3)

@@ -1,0 +1,2 @@
+pub mod Cholesky
+pub mod ColumnOrder

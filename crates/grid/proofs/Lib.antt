@@ -1,0 +1,3 @@
+pub mod Keeps
+pub mod Order
+pub mod Tables

@@ -1,0 +1,89 @@
+-- Tables of what the 20 steps keep: an entry, and one or three more poles against a table.
+use Prim.Native.Nat.{ℕ, suc, _+_, _*_, _<_, _≤_, min}
+use mathlib.Core.Path.{_≡_, refl, sym, ap, _∙_}
+use mathlib.Core.Bool.{Bool, true, false}
+use mathlib.Core.List.{List, [], _∷_}
+use native.Mathlib.Omega.{arith}
+use borrow.Author.Tests.{ltb-true, ltb-false}
+use lib.Dec.{ltb}
+use lib.ListN.{length, getD, replicate, length-replicate}
+use lib.Seq.{ext-getD}
+use lib.Ieee.{Float}
+use Rattle.float.specs.Series.{at, fill}
+use Rattle.lags.specs.Lags.{lagCount, poleOf}
+use Rattle.gain.specs.declared.GainFit.{GainFit}
+use Rattle.gain.specs.declared.GainFit.the-variants.{Nothing}
+use Rattle.gain.specs.declared.Shared.{Shared}
+use Rattle.gain.specs.Gain.{stepCount}
+use Rattle.gain.specs.Prepared.{laneCount, woven, laneSeries, fitAt}
+use Rattle.gain.proofs.Fill.{length-fill, filled, unfilled}
+use Rattle.kernel.specs.Kernel.{placeCount, placeOf, placeFit}
+use Rattle.kernel.proofs.Places.{place-fit}
+use Rattle.grid.specs.declared.Kept.{Kept}
+use Rattle.grid.specs.declared.Kept.the-variants.{Empty}
+use Rattle.grid.specs.Grid.{candidate, keepOf, keptTo, lowEnd, pickEnd, highEnd}
+use Rattle.grid.specs.Steps.{keptBelow, against, tableOf}
+
+pub table-at : (kept : ℕ → Kept) (s : ℕ) → s < stepCount → getD (tableOf kept) s Empty ≡ kept s
+table-at kept s p = filled (λ s l. kept s) (replicate stepCount Empty) Empty stepCount s (rw length-replicate (omega arith)) p
+
+table-long : (kept : ℕ → Kept) → length (tableOf kept) ≡ stepCount
+table-long kept = length-fill (λ s l. kept s) (replicate stepCount Empty) stepCount ∙ length-replicate stepCount Empty
+
+-- one more pole against a table is a table, step by step
+pub table-against : (pole low high : Float) (fits : List GainFit) (q : ℕ) (kept next : ℕ → Kept)
+    → ((s : ℕ) → s < stepCount → keepOf (kept s) (candidate pole low high (getD fits (placeOf q s) Nothing)) ≡ next s)
+    → fill (against pole low high fits q) (tableOf kept) stepCount ≡ tableOf next
+table-against pole low high fits q kept next e =
+    let f = against pole low high fits q in let l = tableOf kept in
+    let long : length (fill f l stepCount) ≡ stepCount = length-fill f l stepCount ∙ table-long kept in
+    ext-getD Empty (fill f l stepCount) (tableOf next) (long ∙ sym (table-long next)) (λ s p.
+    let h : s < stepCount = rw long at p in
+    filled f l Empty stepCount s (rw (table-long kept) (omega arith)) h
+    ∙ ap (λ (k : Kept). keepOf k (candidate pole low high (getD fits (placeOf q s) Nothing))) (unfilled f l Empty s s (omega arith) ∙ table-at kept s h)
+    ∙ e s h ∙ sym (table-at next s h))
+
+-- the pole above, by its place
+pub above : (pole : ℕ → Float) (last i : ℕ) → i ≤ last → highEnd pole last i ≡ pole (min (i + 1) last)
+above pole last i h = go (ltb i last) refl
+  where
+    go : (b : Bool) → ltb i last ≡ b → pickEnd b (pole (i + 1)) (pole i) ≡ pole (min (i + 1) last)
+    go true e = let z : i + 1 ≡ min (i + 1) last = omega (arith, ltb-true i last e) in ap pole z
+    go false e = let z : i ≡ min (i + 1) last = omega (arith, ltb-false i last e) in ap pole z
+
+-- the pole above one that is not the last
+pub up : (dt : Float) (j k : ℕ) → j < lagCount → k ≡ j + 1 → highEnd (poleOf dt) lagCount j ≡ poleOf dt k
+up dt j k h p = let e : min (j + 1) lagCount ≡ k = omega arith in above (poleOf dt) lagCount j (omega arith) ∙ ap (poleOf dt) e
+
+-- what pole i leaves of the table, which is pole q of the three whose regressors are woven in xs
+pub pole-more : (dt : Float) (u : ℕ → Float) (cs ts l xs poles : List Float) (w : Shared) (i q : ℕ) (fits : List GainFit) (low high : Float) (kept : List Kept)
+    → length l ≡ 12288 → w .ticks ≤ 2037 → q < 3 → at poles q ≡ poleOf dt i → low ≡ lowEnd (poleOf dt) i → high ≡ highEnd (poleOf dt) lagCount i
+    → xs ≡ fill (woven (laneSeries poles u)) l ((w .ticks + 11) * laneCount) → fits ≡ fill (placeFit xs cs ts w) (replicate placeCount Nothing) placeCount
+    → kept ≡ tableOf (keptBelow dt (fitAt (w .carry) u (at cs) (at ts) (w .ticks)) i)
+    → fill (against (at poles q) low high fits q) kept stepCount ≡ tableOf (keptBelow dt (fitAt (w .carry) u (at cs) (at ts) (w .ticks)) (suc i))
+unfolding keptTo
+pole-more dt u cs ts l xs poles w i q fits low high kept long h z p a b x f k =
+    rw k (table-against (at poles q) low high fits q _ _ (λ s y.
+    let g : getD fits (placeOf q s) Nothing ≡ fitAt (w .carry) u (at cs) (at ts) (w .ticks) s (at poles q) =
+    ap (λ (v : List GainFit). getD v (placeOf q s) Nothing) f
+    ∙ filled (placeFit xs cs ts w) (replicate placeCount Nothing) Nothing placeCount (placeOf q s) (rw length-replicate (omega arith)) (omega arith)
+    ∙ place-fit u cs ts poles l xs w q s long h z y x in
+    rw (g, p, a, b) refl))
+
+-- what three poles leave of it, from pole 3·i on
+pub three-more : (dt : Float) (u : ℕ → Float) (cs ts l xs : List Float) (w : Shared) (i : ℕ) (fits : List GainFit) (p₀ p₁ p₂ low high : Float) (kept : List Kept)
+    → length l ≡ 12288 → w .ticks ≤ 2037 → i < 43 → p₀ ≡ poleOf dt (i * 3) → p₁ ≡ poleOf dt (i * 3 + 1) → p₂ ≡ poleOf dt (i * 3 + 2)
+    → low ≡ lowEnd (poleOf dt) (i * 3) → high ≡ highEnd (poleOf dt) lagCount (i * 3 + 2)
+    → xs ≡ fill (woven (laneSeries (p₀ ∷ p₁ ∷ p₂ ∷ []) u)) l ((w .ticks + 11) * laneCount) → fits ≡ fill (placeFit xs cs ts w) (replicate placeCount Nothing) placeCount
+    → kept ≡ tableOf (keptBelow dt (fitAt (w .carry) u (at cs) (at ts) (w .ticks)) (i * 3))
+    → fill (against p₂ p₁ high fits 2) (fill (against p₁ p₀ p₂ fits 1) (fill (against p₀ low p₁ fits 0) kept stepCount) stepCount) stepCount
+    ≡ tableOf (keptBelow dt (fitAt (w .carry) u (at cs) (at ts) (w .ticks)) ((i + 1) * 3))
+unfolding lowEnd
+three-more dt u cs ts l xs w i fits p₀ p₁ p₂ low high kept long h z e₀ e₁ e₂ a b x f k =
+    let poles = p₀ ∷ p₁ ∷ p₂ ∷ [] in
+    let s₁ : i * 3 + 1 ≡ suc (i * 3) = omega arith in
+    let s₂ : i * 3 + 2 ≡ suc (suc (i * 3)) = omega arith in
+    let s₃ : (i + 1) * 3 ≡ suc (suc (suc (i * 3))) = omega arith in
+    let one = pole-more dt u cs ts l xs poles w (i * 3) 0 fits low p₁ kept long h (omega arith) e₀ a (e₁ ∙ sym (up dt (i * 3) (i * 3 + 1) (omega arith) (omega arith))) x f k in
+    let two = pole-more dt u cs ts l xs poles w (suc (i * 3)) 1 fits p₀ p₂ _ long h (omega arith) (rw s₁ at e₁) e₀ (e₂ ∙ sym (up dt (suc (i * 3)) (i * 3 + 2) (omega arith) (omega arith))) x f one in
+    rw s₃ (pole-more dt u cs ts l xs poles w (suc (suc (i * 3))) 2 fits p₁ high _ long h (omega arith) (rw s₂ at e₂) (rw s₁ at e₁) (rw s₂ at b) x f two)

@@ -1,0 +1,26 @@
+-- What the grid's inner functions are stated by: tables of what the 20 steps keep.
+use Prim.Native.Nat.{ℕ}
+use mathlib.Core.List.{List}
+use lib.ListN.{getD, replicate}
+use lib.Ieee.{Float}
+use Rattle.float.specs.Series.{fill}
+use Rattle.lags.specs.Lags.{lagCount, poleOf}
+use Rattle.gain.specs.declared.GainFit.{GainFit}
+use Rattle.gain.specs.declared.GainFit.the-variants.{Nothing}
+use Rattle.gain.specs.Gain.{stepCount}
+use Rattle.kernel.specs.Kernel.{placeOf}
+use Rattle.grid.specs.declared.Kept.{Kept}
+use Rattle.grid.specs.declared.Kept.the-variants.{Empty}
+use Rattle.grid.specs.Grid.{candidate, keepOf, keptTo, candidates}
+
+-- what step s keeps of the first i poles
+abbrev pub keptBelow : Float → (ℕ → Float → GainFit) → ℕ → ℕ → Kept
+keptBelow dt fit i s = keptTo (candidates (poleOf dt) lagCount (fit s)) i
+
+-- what a step keeps by a table, against its fit at one more pole, which is pole q of three
+abbrev pub against : (pole low high : Float) → List GainFit → ℕ → ℕ → List Kept → Kept
+against pole low high fits q s kept = keepOf (getD kept s Empty) (candidate pole low high (getD fits (placeOf q s) Nothing))
+
+-- what each step keeps, as a list
+abbrev pub tableOf : (ℕ → Kept) → List Kept
+tableOf kept = fill (λ s l. kept s) (replicate stepCount Empty) stepCount
