@@ -10,7 +10,7 @@ use Rattle.float.specs.Values.{zero32}
 use Rattle.float.specs.Root.{rooted}
 use Rattle.float.specs.Series.{at, fill}
 use Rattle.cholesky.specs.Cholesky.{entryAt, reduced, factorEntry, factor}
-use Rattle.cholesky.proofs.Fill.{fill-keeps, fill-at}
+use Rattle.float.proofs.Fill.{fill-keeps, fill-at}
 
 module _ (a : List Float) where
   -- L with its first n entries set

@@ -12,3 +12,4 @@ pub mod ExpSteps
 pub mod RootNear
 pub mod Unit
 pub mod ExpUnit
+pub mod Fill

@@ -1,4 +1,4 @@
-pub mod Fill
+pub mod Woven
 pub mod Poles
 pub mod Below
 pub mod Accumulators

@@ -11,7 +11,8 @@ use Rattle.gain.specs.declared.Shared.{Shared}
 use Rattle.gain.specs.declared.StepSums.{StepSums}
 use Rattle.gain.specs.Gain.{firstTick, stepCount, wholeTicksOf, isHalf, felt, change, through, solved, fitted, gainFit}
 use Rattle.gain.specs.Prepared.{series, laneCount, woven, laneSeries, fitAt, Summed, Totals, Prepared}
-use Rattle.gain.proofs.Fill.{filled, woven-at}
+use Rattle.float.proofs.Fill.{filled}
+use Rattle.gain.proofs.Woven.{woven-at}
 use Rattle.gain.proofs.Poles.{lane-of}
 use Rattle.gain.proofs.Below.{Agree, through-same, felt-same, fitted-same}
 

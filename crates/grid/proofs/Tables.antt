@@ -16,7 +16,7 @@ use Rattle.gain.specs.declared.GainFit.the-variants.{Nothing}
 use Rattle.gain.specs.declared.Shared.{Shared}
 use Rattle.gain.specs.Gain.{stepCount}
 use Rattle.gain.specs.Prepared.{laneCount, woven, laneSeries, fitAt}
-use Rattle.gain.proofs.Fill.{length-fill, filled, unfilled}
+use Rattle.float.proofs.Fill.{length-fill, filled, unfilled}
 use Rattle.kernel.specs.Kernel.{placeCount, placeOf, placeFit}
 use Rattle.kernel.proofs.Places.{place-fit}
 use Rattle.grid.specs.declared.Kept.{Kept}

@@ -17,7 +17,7 @@ use Rattle.gain.specs.declared.GainFit.{GainFit}
 use Rattle.gain.specs.declared.Shared.{Shared}
 use Rattle.gain.specs.Gain.{firstTick, stepCount, gainFit}
 use Rattle.gain.specs.Prepared.{fitAt, Prepared}
-use Rattle.gain.proofs.Fill.{fill-same}
+use Rattle.float.proofs.Fill.{fill-same}
 use Rattle.gain.proofs.Window.{window-fit}
 use Rattle.grid.specs.declared.Kept.{Kept}
 use Rattle.grid.specs.declared.Kept.the-variants.{Empty}

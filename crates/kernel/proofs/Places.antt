@@ -12,7 +12,7 @@ use Rattle.gain.specs.declared.Shared.{Shared}
 use Rattle.gain.specs.declared.StepSums.{StepSums}
 use Rattle.gain.specs.Gain.{firstTick, stepCount, through, fitted}
 use Rattle.gain.specs.Prepared.{laneCount, woven, laneSeries, fitAt, Summed}
-use Rattle.gain.proofs.Fill.{filled, fill-more}
+use Rattle.float.proofs.Fill.{filled, fill-more}
 use Rattle.gain.proofs.Window.{lane-fit}
 use Rattle.kernel.specs.Kernel.{placeCount, sumsAt, placeOf, placeSeries}
 

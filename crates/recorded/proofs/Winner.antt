@@ -16,7 +16,7 @@ use Rattle.delay.specs.Tie.{entryCount, delayToFit}
 use Rattle.delay.proofs.Winner.{won}
 use Rattle.least_squares.specs.declared.Solved.{Solved}
 use Rattle.least_squares.specs.declared.Solved.the-variants.{NoFit}
-use Rattle.cholesky.proofs.Fill.{fill-at, fill-past}
+use Rattle.float.proofs.Fill.{fill-at, unfilled}
 use Rattle.recorded.specs.Classify.{maxDelay, entryOf, entries}
 use Rattle.recorded.specs.Stages.{solvedList}
 
@@ -36,7 +36,7 @@ module _ (f : ℕ → Solved) where
   -- past the ten delays
   none-after : (k : ℕ) → maxDelay ≤ k → getD (entries f) k entry.Missing ≡ entry.Missing
   unfolding entries
-  none-after k h = fill-past (λ n l. entryOf (f n)) (replicate entryCount entry.Missing) entry.Missing k maxDelay h ∙ all-alike entry.Missing entryCount k
+  none-after k h = unfilled (λ n l. entryOf (f n)) (replicate entryCount entry.Missing) entry.Missing maxDelay k h ∙ all-alike entry.Missing entryCount k
 
   -- two functions that agree on the delays give one list of entries
   filled-by : (g : ℕ → Solved) → ((k : ℕ) → k < maxDelay → f k ≡ g k) → (n : ℕ) → n ≤ maxDelay

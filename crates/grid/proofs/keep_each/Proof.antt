@@ -6,7 +6,7 @@ use native.Mathlib.Omega.{arith}
 use borrow.Author.Needs.{needs}
 use Rattle.float.specs.Series.{fill}
 use Rattle.gain.specs.Gain.{stepCount}
-use Rattle.gain.proofs.Fill.{fill-more}
+use Rattle.float.proofs.Fill.{fill-more}
 use Rattle.grid.specs.Steps.{against}
 use Rattle.grid.proofs.keep_each.Statement.{statement}
 use Rattle.grid.proofs.keep_each.Tie as tie

@@ -9,7 +9,7 @@ use Rattle.float.specs.Values.{zero64}
 use Rattle.float.specs.Series.{at, fill}
 use Rattle.lags.specs.Lags.{lagCount, poleOf}
 use Rattle.gain.specs.Prepared.{fitAt}
-use Rattle.gain.proofs.Fill.{length-fill}
+use Rattle.float.proofs.Fill.{length-fill}
 use Rattle.grid.specs.Grid.{keptTo, lowEnd, keptAt}
 use Rattle.grid.specs.Steps.{keptBelow, tableOf}
 use Rattle.grid.proofs.Tables.{above, up, three-more}

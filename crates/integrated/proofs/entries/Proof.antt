@@ -7,7 +7,7 @@ use lib.ListN.{getD}
 use borrow.Author.Needs.{needs}
 use Rattle.float.specs.Series.{fill}
 use Rattle.gain.specs.Gain.{stepCount}
-use Rattle.gain.proofs.Fill.{fill-more}
+use Rattle.float.proofs.Fill.{fill-more}
 use Rattle.grid.specs.declared.Kept.the-variants.{Empty}
 use Rattle.integrated.specs.Integrated.{entryOf}
 use Rattle.integrated.proofs.entries.Statement.{statement}

@@ -4,7 +4,7 @@ use lib.ListN.{replicate}
 use borrow.Author.Needs.{needs}
 use Rattle.float.specs.Series.{at}
 use Rattle.gain.specs.declared.GainFit.the-variants.{Nothing}
-use Rattle.gain.proofs.Fill.{fill-same}
+use Rattle.float.proofs.Fill.{fill-same}
 use Rattle.gain.proofs.Window.{solved-is}
 use Rattle.kernel.specs.Kernel.{placeCount, placeSums}
 use Rattle.kernel.proofs.fit_steps.Statement.{statement}

@@ -6,7 +6,7 @@ use native.Mathlib.Numerals.{add-one}
 use lib.ListN.{replicate}
 use Rattle.float.specs.Series.{fill}
 use Rattle.gain.specs.declared.GainFit.the-variants.{Nothing}
-use Rattle.gain.proofs.Fill.{fill-more}
+use Rattle.float.proofs.Fill.{fill-more}
 use Rattle.kernel.specs.Kernel.{placeCount, solvedPlace}
 use Rattle.kernel.proofs.solve_places.Statement.{statement}
 use Rattle.kernel.proofs.solve_places.Tie as tie
