@@ -14,6 +14,7 @@ use Rattle.float.specs.Series.{at}
 use Rattle.window.specs.declared.Window.{Window}
 use Rattle.window.specs.Samples.{Samples, capacity, lastOf, push, hold, bad, store}
 use Rattle.window.specs.Arrays.{storedOf, samplesIn, previousAt, holdAt, putAt, nextWindow}
+use Rattle.window.specs.Lent.{Lent, lent, Whole, samplesOf, putSample}
 
 -- at place 0 there is no value before
 pub previous-first : (values : List Float) (n : ℕ) → n ≡ 0 → zero32 ≡ previousAt values n
@@ -52,6 +53,10 @@ module _ {A : Type 0} (n : ℕ) (l : List A) (x : A) where
   unfolding putAt
   put-full h = simp (le-ltb n capacity h)
 
+-- four arrays, one by one
+pub arrays-same : {a a' b b' c c' : List Float} {d d' : List Bool} → a ≡ a' → b ≡ b' → c ≡ c' → d ≡ d' → lent a b c d ≡ lent a' b' c' d'
+arrays-same p q r s = cc
+
 -- the samples after a tick are those before it, with the tick stored
 last-of-more : {A : Type 0} (d : A) (xs : List A) (x : A) → lastOf d (xs ++ (x ∷ [])) ≡ x
 unfolding lastOf
@@ -80,43 +85,41 @@ same : {a a' b b' c c' : List Float} {d d' : List Bool} {e e' : Float} → a ≡
 same p q r s t = cc
 
 -- The samples in the arrays after a tick are those before it, with the tick stored; n is how many were stored.
-module _ (w : Window) (rates moments offsets : List Float) (marks : List Bool) (dt rate moment offset : Float) where
+module _ (w : Window) (l : Lent) (dt rate moment offset : Float) where
   abbrev n : ℕ
   n = storedOf w
 
   abbrev Stored : Bool → Type 0
   Stored b =
-      samplesIn (nextWindow w dt) (putAt n rates (holdAt rates n rate)) (putAt n moments (holdAt moments n moment)) (putAt n offsets offset) (putAt n marks (bad rate moment))
+      samplesOf (nextWindow w dt) (putSample w l rate moment offset)
       ≡ record {
-        rates = push b (take n rates) (hold (take n rates) rate);
-        moments = push b (take n moments) (hold (take n moments) moment);
-        offsets = push b (take n offsets) offset;
-        marks = push b (take n marks) (bad rate moment);
+        rates = push b (take n (l .rates)) (hold (take n (l .rates)) rate);
+        moments = push b (take n (l .moments)) (hold (take n (l .moments)) moment);
+        offsets = push b (take n (l .offsets)) offset;
+        marks = push b (take n (l .marks)) (bad rate moment);
         duration = cond b (add binary32 (w .«duration_s») dt) (w .«duration_s»);
       }
 
-  roomy : n < capacity → length rates ≡ capacity → length moments ≡ capacity → length offsets ≡ capacity → length marks ≡ capacity → Stored true
-  unfolding samplesIn
-  roomy r hr hm ho hk =
+  roomy : n < capacity → Whole l → Stored true
+  unfolding samplesIn putSample
+  roomy r h =
       let next : storedOf (nextWindow w dt) ≡ suc n = rw (next-roomy w dt r) (unfold storedOf in omega arith) in
-      rw (next, next-roomy w dt r, holds rates n rate (omega arith), holds moments n moment (omega arith))
-      (same (pushes n rates (holdAt rates n rate) (omega arith) r) (pushes n moments (holdAt moments n moment) (omega arith) r) (pushes n offsets offset (omega arith) r)
-      (pushes n marks (bad rate moment) (omega arith) r) refl)
+      rw (next, next-roomy w dt r, holds (l .rates) n rate (omega arith), holds (l .moments) n moment (omega arith))
+      (same (pushes n (l .rates) (holdAt (l .rates) n rate) (omega arith) r) (pushes n (l .moments) (holdAt (l .moments) n moment) (omega arith) r) (pushes n (l .offsets) offset (omega arith) r)
+      (pushes n (l .marks) (bad rate moment) (omega arith) r) refl)
 
   full : capacity ≤ n → Stored false
-  unfolding samplesIn
+  unfolding samplesIn putSample
   full f =
       rw (next-full w dt f)
-      (same (full-stays n rates _ _ f) (full-stays n moments _ _ f) (full-stays n offsets _ _ f) (full-stays n marks _ _ f) refl)
+      (same (full-stays n (l .rates) _ _ f) (full-stays n (l .moments) _ _ f) (full-stays n (l .offsets) _ _ f) (full-stays n (l .marks) _ _ f) refl)
 
-  pub ticked : length rates ≡ capacity → length moments ≡ capacity → length offsets ≡ capacity → length marks ≡ capacity
-      → samplesIn (nextWindow w dt) (putAt n rates (holdAt rates n rate)) (putAt n moments (holdAt moments n moment)) (putAt n offsets offset) (putAt n marks (bad rate moment))
-      ≡ store (samplesIn w rates moments offsets marks) dt rate moment offset
+  pub ticked : Whole l → samplesOf (nextWindow w dt) (putSample w l rate moment offset) ≡ store (samplesOf w l) dt rate moment offset
   unfolding store samplesIn
-  ticked hr hm ho hk =
-      let inside : n ≤ length rates = unfold storedOf in omega arith in
-      rw (length-take-le n rates inside) (go (ltb n capacity) refl)
+  ticked h =
+      let inside : n ≤ length (l .rates) = unfold storedOf in omega arith in
+      rw (length-take-le n (l .rates) inside) (go (ltb n capacity) refl)
     where
       go : (b : Bool) → ltb n capacity ≡ b → Stored b
-      go true e = roomy (ltb→lt n capacity (rw e tt)) hr hm ho hk
+      go true e = roomy (ltb→lt n capacity (rw e tt)) h
       go false e = full (nltb→le n capacity (rw e tt))

@@ -1,9 +1,11 @@
 // The window of recorded ticks. Its samples stand in arrays that the caller lends; the rest is here, by value.
 ghost use mathlib.Core.Path.{_≡_};
 ghost use Prim.Native.Nat.{_<_};
+ghost use lib.ListN.{length};
 ghost use Rattle.float.specs.Values.{zero32};
-ghost use Rattle.window.specs.Samples.{bad};
-ghost use Rattle.window.specs.Arrays.{storedOf, holdAt, putAt, nextWindow, countsTo, tallied};
+ghost use Rattle.window.specs.Samples.{bad, capacity};
+ghost use Rattle.window.specs.Arrays.{storedOf, holdAt, nextWindow, countsTo, tallied};
+ghost use Rattle.window.specs.Lent.{atEntry, atExit, putSample};
 
 const CAPACITY: usize = 2048;
 
@@ -31,6 +33,15 @@ impl Window {
         if len < CAPACITY { len } else { CAPACITY }
     }
 }
+
+// An array is as long as its type says, which a reference to it does not tell the proofs. Taking it by value does; compiled, nothing is copied.
+pub fn whole_values(values: [f32; 2048])
+    ensures { λ r. ⌜ length values ≡ capacity ⌝ }
+{}
+
+pub fn whole_marks(marks: [bool; 2048])
+    ensures { λ r. ⌜ length marks ≡ capacity ⌝ }
+{}
 
 // What is stored of a reading at a place: the one before it of its own kind where the reading is not finite, 0 at the first place.
 fn held_value(value: f32, values: &[f32; 2048], index: usize) -> f32
@@ -65,10 +76,7 @@ pub fn record_tick(
     offset: f32,
 ) -> Window
     ensures result { λ r. ⌜ r ≡ nextWindow window dt ⌝ }
-    ensures rates { λ r. ⌜ now (rates .exit) ≡ putAt (storedOf window) (now (rates .entry)) (holdAt (now (rates .entry)) (storedOf window) rate) ⌝ }
-    ensures moments { λ r. ⌜ now (moments .exit) ≡ putAt (storedOf window) (now (moments .entry)) (holdAt (now (moments .entry)) (storedOf window) moment) ⌝ }
-    ensures offsets { λ r. ⌜ now (offsets .exit) ≡ putAt (storedOf window) (now (offsets .entry)) offset ⌝ }
-    ensures held { λ r. ⌜ now (held .exit) ≡ putAt (storedOf window) (now (held .entry)) (bad rate moment) ⌝ }
+    ensures lent { λ r. ⌜ atExit rates moments offsets held ≡ putSample window (atEntry rates moments offsets held) rate moment offset ⌝ }
 {
     let index = window.stored();
     if index < CAPACITY {

@@ -6,7 +6,8 @@ use native.Mathlib.Numerals.{add-one}
 use borrow.Author.Needs.{needs}
 use Rattle.window.specs.Samples.{capacity, bad}
 use Rattle.window.specs.Arrays.{storedOf, holdAt}
-use Rattle.window.proofs.Arrays.{next-roomy, next-full, put-roomy, put-full}
+use Rattle.window.specs.Lent.{putSample}
+use Rattle.window.proofs.Arrays.{next-roomy, next-full, put-roomy, put-full, arrays-same}
 use Rattle.window.proofs.record_tick.Statement.{statement}
 use Rattle.window.proofs.record_tick.Tie as tie
 
@@ -47,35 +48,33 @@ add-t15 : tie.Need-add-t15
 add-t15 c = search needs
 
 returns : tie.Need-returns
+unfolding putSample
 returns c =
     let b = c .before .before .before .before .before .before .before in
     let a = b .before .args in
     let n = storedOf (a .window) in
     let r : n < capacity = omega (arith, b .stored .ensures) in (
       rw (b .stored .ensures, add-one) (sym (next-roomy (a .window) (a .dt) r)),
-      (
-        cc (put-roomy n (a .rates .now) (holdAt (a .rates .now) n (a .rate)) r),
-        (
-          cc (put-roomy n (a .moments .now) (holdAt (a .moments .now) n (a .moment)) r),
-          (cc (put-roomy n (a .offsets .now) (a .offset) r), cc (put-roomy n (a .held .now) (bad (a .rate) (a .moment)) r)),
-        ),
-      ),
+      arrays-same
+      (cc (put-roomy n (a .rates .now) (holdAt (a .rates .now) n (a .rate)) r))
+      (cc (put-roomy n (a .moments .now) (holdAt (a .moments .now) n (a .moment)) r))
+      (cc (put-roomy n (a .offsets .now) (a .offset) r))
+      (cc (put-roomy n (a .held .now) (bad (a .rate) (a .moment)) r)),
     )
 
 returns-2 : tie.Need-returns-2
+unfolding putSample
 returns-2 c =
     let b = c .before in
     let a = b .before .args in
     let n = storedOf (a .window) in
     let f : capacity ≤ n = omega (arith, b .stored .ensures) in (
       sym (next-full (a .window) (a .dt) f),
-      (
-        sym (put-full n (a .rates .now) (holdAt (a .rates .now) n (a .rate)) f),
-        (
-          sym (put-full n (a .moments .now) (holdAt (a .moments .now) n (a .moment)) f),
-          (sym (put-full n (a .offsets .now) (a .offset) f), sym (put-full n (a .held .now) (bad (a .rate) (a .moment)) f)),
-        ),
-      ),
+      arrays-same
+      (sym (put-full n (a .rates .now) (holdAt (a .rates .now) n (a .rate)) f))
+      (sym (put-full n (a .moments .now) (holdAt (a .moments .now) n (a .moment)) f))
+      (sym (put-full n (a .offsets .now) (a .offset) f))
+      (sym (put-full n (a .held .now) (bad (a .rate) (a .moment)) f)),
     )
 
 pub record-tick-spec : {M : Type 1} → statement M

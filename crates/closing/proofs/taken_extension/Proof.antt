@@ -1,8 +1,8 @@
 -- `taken_extension` is `takes`, an arm each.
 use borrow.Author.Needs.{needs}
 use Rattle.account.specs.Probe.{takes}
-use Rattle.identify.proofs.taken_extension.Statement.{statement}
-use Rattle.identify.proofs.taken_extension.Tie as tie
+use Rattle.closing.proofs.taken_extension.Statement.{statement}
+use Rattle.closing.proofs.taken_extension.Tie as tie
 
 enum-told : tie.Need-enum-told
 enum-told c = search needs

@@ -2,8 +2,8 @@
 use mathlib.Core.Path.{sym, ap}
 use borrow.Author.Needs.{needs}
 use Rattle.account.specs.Probe.{statusOf}
-use Rattle.identify.proofs.status_of.Statement.{statement}
-use Rattle.identify.proofs.status_of.Tie as tie
+use Rattle.closing.proofs.status_of.Statement.{statement}
+use Rattle.closing.proofs.status_of.Tie as tie
 
 enum-told : tie.Need-enum-told
 enum-told c = search needs

@@ -6,9 +6,9 @@ use Rattle.window.specs.Arrays.{storedOf, samplesIn}
 use Rattle.recorded.specs.declared.Classified.{Classified}
 use Rattle.recorded.specs.Classify.{classify}
 use Rattle.account.specs.Probe.{takes}
-use Rattle.identify.proofs.Closing.{goes-on, ends, extends, take-stored}
-use Rattle.identify.proofs.close.Statement.{statement}
-use Rattle.identify.proofs.close.Tie as tie
+use Rattle.closing.proofs.Closing.{goes-on, ends, extends}
+use Rattle.closing.proofs.close.Statement.{statement}
+use Rattle.closing.proofs.close.Tie as tie
 
 running-requires : tie.Need-running-requires
 running-requires c κs = search needs
@@ -21,10 +21,10 @@ returns c =
     λ offsets.
     let a = c .before .before .before .args in
     rw (c .ended-at .ensures, c .before .running .ensures)
-    (sym (goes-on (a .now-s) (samplesIn (a .window) (a .rates .now) (a .moments .now) offsets (a .held .now)) (a .end-s) (a .noisy) (a .sweep) (c .before .before .if1 .taken)))
+    (goes-on (a .now-s) (a .end-s) (a .noisy) (a .sweep) (a .window) (a .rates .now) (a .moments .now) offsets (a .held .now) (c .before .before .if1 .taken))
 
-are-whole-requires : tie.Need-are-whole-requires
-are-whole-requires c κs = search needs
+stored-requires : tie.Need-stored-requires
+stored-requires c κs = search needs
 
 classify-requires : tie.Need-classify-requires
 classify-requires c κs = search needs
@@ -49,17 +49,16 @@ unfolding samplesIn
 returns-2 c =
     λ offsets.
     let told = c .before .before in
-    let class = told .before .before .before in
-    let a = class .before .before .before .before .before .before .args in
-    let e1 = class .before .before .before .before .before in
-    let whole = class .before .are-whole .ensures in
+    let taking = told .before .before in
+    let class = taking .before in
+    let found = class .before .before in
+    let a = found .before .args in
     let n = storedOf (a .window) in
     let is : class .classify .result ≡ classify (take n (a .rates .now)) (take n (a .moments .now)) (take n (a .held .now)) (a .window .«duration_s») =
-    rw (take-stored (a .window) (a .rates .now) (whole .0), take-stored (a .window) (a .moments .now) (whole .1), take-stored (a .window) (a .held .now) (whole .2)) at (class .classify .ensures) in
-    let w = samplesIn (a .window) (a .rates .now) (a .moments .now) offsets (a .held .now) in
-    let taken = sym (ap (λ (x : Classified). takes x (a .noisy)) is) ∙ sym (told .before .before .taken-extension .ensures) ∙ told .enum-told .given .1 in
-    rw (c .ended-at2 .ensures, c .before .stand-at .ensures (take n (a .held .now)) is)
-    (sym (ends (a .now-s) w (a .end-s) (a .noisy) (a .sweep) (e1 .if1 .left) taken))
+    rw (class .before .stored .ensures) at (class .classify .ensures) in
+    let taken = sym (ap (λ (x : Classified). takes x (a .noisy)) is) ∙ sym (taking .taken-extension .ensures) ∙ told .enum-told .given .1 in
+    rw (c .ended-at2 .ensures, c .before .stand-at .ensures, is)
+    (ends (a .now-s) (a .end-s) (a .noisy) (a .sweep) (a .window) (a .rates .now) (a .moments .now) offsets (a .held .now) (found .if1 .left) taken)
 
 with-amplitude-requires : tie.Need-with-amplitude-requires
 with-amplitude-requires c κs = search needs
@@ -74,18 +73,18 @@ returns-3 : tie.Need-returns-3
 unfolding samplesIn
 returns-3 c =
     λ offsets.
-    let ext = c .before .before .before .before .before in
-    let class = ext .before .before .before in
-    let a = class .before .before .before .before .before .before .args in
-    let e1 = class .before .before .before .before .before in
-    let whole = class .before .are-whole .ensures in
+    let louder = c .before .before .before in
+    let ext = louder .before .before in
+    let taking = ext .before .before in
+    let class = taking .before in
+    let found = class .before .before in
+    let a = found .before .args in
     let n = storedOf (a .window) in
     let is : class .classify .result ≡ classify (take n (a .rates .now)) (take n (a .moments .now)) (take n (a .held .now)) (a .window .«duration_s») =
-    rw (take-stored (a .window) (a .rates .now) (whole .0), take-stored (a .window) (a .moments .now) (whole .1), take-stored (a .window) (a .held .now) (whole .2)) at (class .classify .ensures) in
-    let w = samplesIn (a .window) (a .rates .now) (a .moments .now) offsets (a .held .now) in
-    let taken = sym (ap (λ (x : Classified). takes x (a .noisy)) is) ∙ sym (ext .before .before .taken-extension .ensures) ∙ ext .extension .given .1 in
-    rw (c .ended-at3 .ensures, c .before .stand-at2 .ensures (take n (a .held .now)) is, c .before .before .before .with-amplitude .ensures)
-    (sym (extends (a .now-s) w (a .end-s) (a .noisy) (a .sweep) (ext .extension .given .0 .0) (e1 .if1 .left) taken))
+    rw (class .before .stored .ensures) at (class .classify .ensures) in
+    let taken = sym (ap (λ (x : Classified). takes x (a .noisy)) is) ∙ sym (taking .taken-extension .ensures) ∙ ext .extension .given .1 in
+    rw (c .ended-at3 .ensures, c .before .stand-at2 .ensures, louder .with-amplitude .ensures, is)
+    (extends (a .now-s) (a .end-s) (a .noisy) (a .sweep) (a .window) (a .rates .now) (a .moments .now) offsets (a .held .now) (ext .extension .given .0 .0) (found .if1 .left) taken)
 
 pub close-spec : {M : Type 1} → statement M
 close-spec =
@@ -94,7 +93,7 @@ close-spec =
     running-requires
     ended-at-requires
     returns
-    are-whole-requires
+    stored-requires
     classify-requires
     taken-extension-requires
     enum-known-extension

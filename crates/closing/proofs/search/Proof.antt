@@ -2,9 +2,8 @@
 use borrow.Author.Needs.{needs}
 use Rattle.window.specs.Arrays.{storedOf}
 use Rattle.account.specs.Probe.{finished}
-use Rattle.identify.specs.Seen.{standingOf}
-use Rattle.identify.proofs.search.Statement.{statement}
-use Rattle.identify.proofs.search.Tie as tie
+use Rattle.closing.proofs.search.Statement.{statement}
+use Rattle.closing.proofs.search.Tie as tie
 
 fit-integrated-requires : tie.Need-fit-integrated-requires
 fit-integrated-requires c κs = search needs
@@ -13,7 +12,7 @@ status-of-requires : tie.Need-status-of-requires
 status-of-requires c κs = search needs
 
 returns : tie.Need-returns
-unfolding standingOf finished storedOf
+unfolding finished storedOf
 returns c = rw (c .status-of .ensures, c .before .fit-integrated .ensures)
 
 pub search-spec : {M : Type 1} → statement M
