@@ -10,7 +10,8 @@ use Rattle.account.specs.Probe.{Call}
 use Rattle.identify.specs.declared.IdentifyProbe.{IdentifyProbe}
 use Rattle.identify.specs.declared.Opened.the-variants.{Probe, Refused}
 use Rattle.identify.specs.Seen.{freshProbe, openedBy}
-use Rattle.byte_run.specs.ByteRun.{configOf, callsOf, written, onto, sized, ran, runIf, byteRun}
+use Rattle.byte_config.specs.ByteConfig.{configOf}
+use Rattle.byte_run.specs.ByteRun.{callsOf, written, onto, sized, ran, runIf, byteRun}
 
 module _ (c : IdentifyConfig) (calls : List Call) (output : List ℕ) where
   turned-away : (b n : ℕ) → openedBy b c ≡ Refused n → ran b c calls output ≡ record { result = n; output = output }

@@ -4,9 +4,11 @@ use mathlib.Core.Path.{_≡_, refl}
 use mathlib.Core.Bool.{false}
 use mathlib.Core.List.{List, [], _∷_, _++_}
 use lib.ListN.{replicate, length}
-use Rattle.byte_run.specs.ByteRun.{Ran, byteRun, runIf, ran, onto, sized, written, replyWord, callsOf, callsTo, callAt, configOf, extensionOf}
+use Rattle.byte_config.specs.ByteConfig.{configOf, extensionOf}
+use Rattle.byte_run.specs.ByteRun.{Ran, byteRun, runIf, ran, onto, sized, written, replyWord, callsOf, callsTo, callAt}
 use Rattle.wire.specs.Words.{floatAt, wordAt, wordBytes, bytesOf}
-use Rattle.report.specs.Report.{reportBytes, packed, fieldsOf, floatsOf, delayOf, kindOf, ofAccount}
+use Rattle.report.specs.Report.{reportBytes, packed, fieldsOf, floatsOf, delayOf, kindOf}
+use Rattle.probe_report.specs.ProbeReport.{ofAccount}
 use Rattle.account.specs.Account.{opened, entry, counted, judged, ended, accept, time, turned, continue, next}
 use Rattle.account.specs.Probe.{clock, fresh, finished, stands, takes, extend, close, tick, answer, step, replies}
 use Rattle.account.specs.Rules.{positive, nonZero, tooLong, brokenExtension, broken, overrun, refusal}

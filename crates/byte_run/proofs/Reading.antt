@@ -1,4 +1,4 @@
--- What a byte run reads: the flag of a configuration, the sizes of its slices, the calls.
+-- What a byte run reads: the sizes of its slices, the calls.
 use Prim.Native.Nat.{ℕ, zero, suc, _+_, _*_, _/_, _%_, _≤_}
 use mathlib.Core.Path.{_≡_, refl}
 use mathlib.Core.Bool.{true, _&&_, and-eq-true-iff}
@@ -7,27 +7,10 @@ use native.Mathlib.Numerals.{add-one}
 use borrow.Author.Tests.{eqb-true, leb-true}
 use lib.Dec.{eqb}
 use lib.ListN.{length, length-append}
-use Rattle.account.specs.declared.Noisy.the-variants.{Absent, Present}
-use Rattle.wire.specs.Words.{floatAt}
-use Rattle.byte_run.specs.ByteRun.{extensionOf, callsTo, sized}
-
-pub absent : (flag : ℕ) (bytes : List ℕ) → flag ≡ 0 → extensionOf flag bytes ≡ Absent
-unfolding extensionOf
-absent flag bytes e = rw e
-
-pub present : (flag : ℕ) (bytes : List ℕ) → (flag ≡ 0 → ⊥) → extensionOf flag bytes ≡ Present (record { amplitude = floatAt bytes 16; «duration_s» = floatAt bytes 20 })
-unfolding extensionOf
-present zero bytes n = absurd (n refl)
-present (suc flag) bytes n = refl
+use Rattle.byte_run.specs.ByteRun.{callsTo, sized}
 
 -- slices that pass rule 9
 module _ (config calls output : List ℕ) (good : sized config calls output ≡ true) where
-  pub config-size : length config ≡ 24
-  unfolding sized
-  config-size =
-      let front = eqb (length config) 24 && eqb (length calls % 12) 0 in
-      eqb-true (length config) 24 (and-eq-true-iff _ _ .0 (and-eq-true-iff front _ .0 good .0) .0)
-
   pub output-size : 36 + 4 * (length calls / 12) ≤ length output
   unfolding sized
   output-size =

@@ -5,27 +5,13 @@ use mathlib.Core.List.{List, [], _∷_, _++_, map}
 use lib.Dec.{leb, eqb}
 use lib.ListN.{length, drop}
 use Rattle.account.specs.declared.IdentifyConfig.{IdentifyConfig}
-use Rattle.account.specs.declared.Noisy.{Noisy}
-use Rattle.account.specs.declared.Noisy.the-variants.{Absent, Present}
 use Rattle.account.specs.Rules.{broken}
 use Rattle.account.specs.Probe.{Call, Reply, offset, refused, fresh, replies}
 use Rattle.account.specs.Account.{opened, account}
-use Rattle.wire.specs.Words.{wordAt, floatAt, wordBytes, wordOf}
-use Rattle.report.specs.Report.{reportBytes, ofAccount}
-
--- "flag (nonzero: extension), its amplitude, its duration"
-unfoldable pub extensionOf : ℕ → List ℕ → Noisy
-extensionOf zero bytes = Absent
-extensionOf (suc flag) bytes = Present (record { amplitude = floatAt bytes 16; «duration_s» = floatAt bytes 20 })
-
--- "Configuration: amplitude, duration_s, washout_tc_s, flag, .."
-unfoldable pub configOf : List ℕ → IdentifyConfig
-configOf bytes = record {
-  amplitude = floatAt bytes 0;
-  «duration_s» = floatAt bytes 4;
-  «washout_tc_s» = floatAt bytes 8;
-  noisy = extensionOf (wordAt bytes 12) bytes;
-}
+use Rattle.wire.specs.Words.{floatAt, wordBytes, wordOf}
+use Rattle.byte_config.specs.ByteConfig.{configOf}
+use Rattle.report.specs.Report.{reportBytes}
+use Rattle.probe_report.specs.ProbeReport.{ofAccount}
 
 -- "Call: dt, rate, moment": the call at byte i
 unfoldable pub callAt : List ℕ → ℕ → Call

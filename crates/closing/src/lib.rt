@@ -155,4 +155,3 @@ pub fn close(
         stand_at(now_s < x.duration_s, now_s, class, window, rates, moments),
     )
 }
-

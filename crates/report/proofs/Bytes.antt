@@ -5,9 +5,9 @@ use mathlib.Core.List.{List, [], _∷_, map}
 use native.Mathlib.Omega.{arith}
 use lib.Dec.{lit<}
 use lib.ListN.{length, length-append, length-map}
-use Rattle.wire.specs.Words.{bytesOf, wordBytes, wordOf, writtenAt}
+use Rattle.wire.specs.Words.{bytesOf, wordBytes, wordOf, writtenAt, writtenWithin}
 use Rattle.wire.proofs.Bytes.{length-bytes, length-words, one-word, three-words}
-use Rattle.wire.proofs.Written.{written-next, word-next}
+use Rattle.wire.proofs.Written.{within, length-within, word-within, written-next, word-next}
 use Rattle.account.specs.declared.IdentifyStatus.{IdentifyStatus}
 use Rattle.account.specs.declared.IdentifyStatus.the-variants.{Running, Done, Unexcited, Saturated}
 use Rattle.report.specs.declared.Report.{Report}
@@ -32,16 +32,22 @@ unfolding reportBytes
 length-report r = rw (length-append, length-bytes, length-words, length-map, six-floats)
 
 -- three words, written one after another
-pub fields-written : (n : ℕ) (l : List ℕ) → 12 ≤ length l → writtenAt 8 (bytesOf 4 (n % 2 ^ 32)) (writtenAt 4 (bytesOf 4 (n / 2 ^ 32 % 2 ^ 32)) (writtenAt 0 (bytesOf 4 (n / 2 ^ 64)) l)) ≡ writtenAt 0 (bytesOf 12 n) l
+pub fields-written : (n : ℕ) (l : List ℕ) → 12 ≤ length l
+    → writtenWithin 8 (bytesOf 4 (n % 2 ^ 32)) (writtenWithin 4 (bytesOf 4 (n / 2 ^ 32 % 2 ^ 32)) (writtenWithin 0 (bytesOf 4 (n / 2 ^ 64)) l)) ≡ writtenAt 0 (bytesOf 12 n) l
 fields-written n l h =
     let a = n / 2 ^ 64 in
     let b = n / 2 ^ 32 % 2 ^ 32 in
-    rw (three-words n, ← one-word a, word-next 0 1 (a ∷ []) b l refl (omega arith)) (word-next 0 2 (a ∷ b ∷ []) (n % 2 ^ 32) l refl (omega arith))
+    let one = writtenWithin 0 (bytesOf 4 a) l in
+    let two = writtenWithin 4 (bytesOf 4 b) one in
+    let long : length one ≡ length l = length-within 0 (bytesOf 4 a) l in
+    let longer : length two ≡ length one = length-within 4 (bytesOf 4 b) one in
+    rw (word-within 8 (n % 2 ^ 32) two (omega arith), word-within 4 b one (omega arith), word-within 0 a l (omega arith), three-words n, ← one-word a, word-next 0 1 (a ∷ []) b l refl (omega arith)) (word-next 0 2 (a ∷ b ∷ []) (n % 2 ^ 32) l refl (omega arith))
 
 -- the floats behind the fields
-pub report-written : (r : Report) (l : List ℕ) → 36 ≤ length l → writtenAt 12 (wordBytes (map wordOf (floatsOf (r .status)))) (writtenAt 0 (bytesOf 12 (packed 0 (fieldsOf r))) l) ≡ writtenAt 0 (reportBytes r) l
+pub report-written : (r : Report) (l : List ℕ) → 36 ≤ length l → writtenAt 12 (wordBytes (map wordOf (floatsOf (r .status)))) (writtenAt 0 (bytesOf 12 (packed 0 (fieldsOf r))) l) ≡ writtenWithin 0 (reportBytes r) l
 unfolding reportBytes
 report-written r l h =
     let fields = bytesOf 12 (packed 0 (fieldsOf r)) in
     let e : length fields ≡ 12 = length-bytes 12 (packed 0 (fieldsOf r)) in
-    rw e at (written-next 0 fields (wordBytes (map wordOf (floatsOf (r .status)))) l (rw e (omega arith)))
+    rw (within 0 (reportBytes r) l (rw (length-report r) h))
+    (rw e at (written-next 0 fields (wordBytes (map wordOf (floatsOf (r .status)))) l (rw e (omega arith))))

@@ -1,12 +1,12 @@
 -- `identify_byte_run` makes the tests of the definition in their order: the sizes, the configuration, and then the run.
 use mathlib.Core.Path.{_≡_, sym, ap, _∙_}
-use native.Mathlib.Omega.{arith}
 use borrow.Author.Needs.{needs}
 use Rattle.account.specs.Rules.{broken}
 use Rattle.identify.specs.Seen.{openedBy}
 use Rattle.identify.specs.declared.Opened.the-variants.{Probe, Refused}
-use Rattle.byte_run.specs.ByteRun.{Ran, configOf}
-use Rattle.byte_run.proofs.Reading.{config-size, output-size}
+use Rattle.byte_config.specs.ByteConfig.{configOf}
+use Rattle.byte_run.specs.ByteRun.{Ran}
+use Rattle.byte_run.proofs.Reading.{output-size}
 use Rattle.byte_run.proofs.ByteRuns.{not-sized, run-refused, run-started}
 use Rattle.byte_run.proofs.identify_byte_run.Statement.{statement}
 use Rattle.byte_run.proofs.identify_byte_run.Tie as tie
@@ -15,9 +15,7 @@ is-sized-requires : tie.Need-is-sized-requires
 is-sized-requires c κs = search needs
 
 config-of-requires : tie.Need-config-of-requires
-config-of-requires c κs =
-    let a = c .before .before .before .before .before .before .args in
-    omega (arith, config-size (a .config .now) (a .calls .now) (a .output .now) (sym (c .before .is-sized .ensures) ∙ c .if1 .taken))
+config-of-requires c κs = search needs
 
 new-requires : tie.Need-new-requires
 new-requires c κs = search needs

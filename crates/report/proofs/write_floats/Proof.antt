@@ -8,7 +8,7 @@ use lib.ListN.{length, take, length-map, length-take}
 use lib.Seq.{take-all}
 use lib.Ieee.{nan}
 use Rattle.wire.specs.Words.{wordBytes, wordOf, writtenAt}
-use Rattle.wire.proofs.Written.{nothing-written, length-words-written, float-next}
+use Rattle.wire.proofs.Written.{nothing-written, length-words-written, word-within, float-next}
 use Rattle.report.proofs.write_floats.Statement.{statement}
 use Rattle.report.proofs.write_floats.Tie as tie
 
@@ -39,7 +39,7 @@ add-write-float : tie.Need-add-write-float Inv-loop μ-loop
 add-write-float c = search needs
 
 write-float-requires : tie.Need-write-float-requires Inv-loop μ-loop
-write-float-requires c κs = let e = kept (c .before .before) in omega arith
+write-float-requires c κs = search needs
 
 add-k : tie.Need-add-k Inv-loop μ-loop
 add-k c = search needs
@@ -52,7 +52,11 @@ loop-again c =
     let b = c .before .before .before .before .before in
     let a = b .before .before .args in
     let six : length (a .t3) ≡ 6 = search needs in
-    (omega arith, c .before .before .write-float .ensures ∙ rw (b .loop .inv .1) (float-next (a .at) (b .loop .k) (a .t3) nan (a .out .now) (omega arith) (omega arith)))
+    let long = kept b in (
+      omega arith,
+      c .before .before .write-float .ensures ∙ word-within _ _ (b .loop .out) (omega arith)
+          ∙ rw (b .loop .inv .1) (float-next (a .at) (b .loop .k) (a .t3) nan (a .out .now) (omega arith) (omega arith)),
+    )
 
 same-length : tie.Need-same-length Inv-loop μ-loop
 same-length c = kept (c .before)

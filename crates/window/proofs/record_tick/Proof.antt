@@ -56,10 +56,10 @@ returns c =
     let r : n < capacity = omega (arith, b .stored .ensures) in (
       rw (b .stored .ensures, add-one) (sym (next-roomy (a .window) (a .dt) r)),
       arrays-same
-      (cc (put-roomy n (a .rates .now) (holdAt (a .rates .now) n (a .rate)) r))
-      (cc (put-roomy n (a .moments .now) (holdAt (a .moments .now) n (a .moment)) r))
-      (cc (put-roomy n (a .offsets .now) (a .offset) r))
-      (cc (put-roomy n (a .held .now) (bad (a .rate) (a .moment)) r)),
+          (cc (put-roomy n (a .rates .now) (holdAt (a .rates .now) n (a .rate)) r))
+          (cc (put-roomy n (a .moments .now) (holdAt (a .moments .now) n (a .moment)) r))
+          (cc (put-roomy n (a .offsets .now) (a .offset) r))
+          (cc (put-roomy n (a .held .now) (bad (a .rate) (a .moment)) r)),
     )
 
 returns-2 : tie.Need-returns-2
@@ -71,10 +71,10 @@ returns-2 c =
     let f : capacity ≤ n = omega (arith, b .stored .ensures) in (
       sym (next-full (a .window) (a .dt) f),
       arrays-same
-      (sym (put-full n (a .rates .now) (holdAt (a .rates .now) n (a .rate)) f))
-      (sym (put-full n (a .moments .now) (holdAt (a .moments .now) n (a .moment)) f))
-      (sym (put-full n (a .offsets .now) (a .offset) f))
-      (sym (put-full n (a .held .now) (bad (a .rate) (a .moment)) f)),
+          (sym (put-full n (a .rates .now) (holdAt (a .rates .now) n (a .rate)) f))
+          (sym (put-full n (a .moments .now) (holdAt (a .moments .now) n (a .moment)) f))
+          (sym (put-full n (a .offsets .now) (a .offset) f))
+          (sym (put-full n (a .held .now) (bad (a .rate) (a .moment)) f)),
     )
 
 pub record-tick-spec : {M : Type 1} → statement M

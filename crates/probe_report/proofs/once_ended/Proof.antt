@@ -1,8 +1,8 @@
 -- `once_ended` is `onceEnded`, an arm each.
 use borrow.Author.Needs.{needs}
 use Rattle.account.specs.Probe.{clock}
-use Rattle.report.proofs.once_ended.Statement.{statement}
-use Rattle.report.proofs.once_ended.Tie as tie
+use Rattle.probe_report.proofs.once_ended.Statement.{statement}
+use Rattle.probe_report.proofs.once_ended.Tie as tie
 
 enum-told : tie.Need-enum-told
 enum-told c = search needs

@@ -2,12 +2,15 @@
 use mathlib.Core.Path.{sym}
 use borrow.Author.Needs.{needs}
 use Rattle.window.specs.Arrays.{countsTo}
-use Rattle.report.proofs.Counting.{counted}
-use Rattle.report.proofs.report_of.Statement.{statement}
-use Rattle.report.proofs.report_of.Tie as tie
+use Rattle.probe_report.proofs.Counting.{counted}
+use Rattle.probe_report.proofs.report_of.Statement.{statement}
+use Rattle.probe_report.proofs.report_of.Tie as tie
 
-are-whole-requires : tie.Need-are-whole-requires
-are-whole-requires c κs = search needs
+whole-values-requires : tie.Need-whole-values-requires
+whole-values-requires c κs = search needs
+
+whole-marks-requires : tie.Need-whole-marks-requires
+whole-marks-requires c κs = search needs
 
 count-ticks-requires : tie.Need-count-ticks-requires
 count-ticks-requires c κs = search needs
@@ -26,16 +29,18 @@ unfolding countsTo
 returns c =
     λ moments offsets.
     let k = c .before .before .before in
-    let whole = k .before .before .are-whole .ensures in
-    let a = k .before .before .before .before .before .args in
+    let marks = k .before .before in
+    let values = marks .before .before in
+    let a = values .before .before .args in
     rw (c .before .once-ended .ensures, c .once-ended2 .ensures, c .before .before .stored .ensures, k .count-ticks .ensures)
-    (sym (counted (a .probe) (a .rates .now) moments offsets (a .held .now) (whole .0) (whole .1)))
+    (sym (counted (a .probe) (a .rates .now) moments offsets (a .held .now) (values .whole-values .ensures) (marks .whole-marks .ensures)))
 
 pub report-of-spec : {M : Type 1} → statement M
 report-of-spec =
     tie.close
     (tie.spec
-    are-whole-requires
+    whole-values-requires
+    whole-marks-requires
     count-ticks-requires
     stored-requires
     once-ended-requires

@@ -1,8 +1,8 @@
 -- Three reads and the extension, a field each.
 use borrow.Author.Needs.{needs}
-use Rattle.byte_run.specs.ByteRun.{configOf}
-use Rattle.byte_run.proofs.config_of.Statement.{statement}
-use Rattle.byte_run.proofs.config_of.Tie as tie
+use Rattle.byte_config.specs.ByteConfig.{configOf}
+use Rattle.byte_config.proofs.config_of.Statement.{statement}
+use Rattle.byte_config.proofs.config_of.Tie as tie
 
 read-float-requires : tie.Need-read-float-requires
 read-float-requires c κs = search needs

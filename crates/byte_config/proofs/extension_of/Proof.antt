@@ -2,9 +2,9 @@
 use mathlib.Core.Path.{sym, _∙_}
 use borrow.Author.Needs.{needs}
 use Rattle.wire.specs.Words.{wordAt}
-use Rattle.byte_run.proofs.Reading.{absent, present}
-use Rattle.byte_run.proofs.extension_of.Statement.{statement}
-use Rattle.byte_run.proofs.extension_of.Tie as tie
+use Rattle.byte_config.proofs.Reading.{absent, present}
+use Rattle.byte_config.proofs.extension_of.Statement.{statement}
+use Rattle.byte_config.proofs.extension_of.Tie as tie
 
 read-word-requires : tie.Need-read-word-requires
 read-word-requires c κs = search needs
