@@ -29,7 +29,7 @@ pub fn report_of(probe: IdentifyProbe, rates: &[f32; 2048], held: &[bool; 2048])
     window::whole_values(*rates);
     window::whole_marks(*held);
     let window = probe.window;
-    let counts = window::count_ticks(window, held);
+    let counts = counting::count_ticks(window, held);
     let status = probe.status;
     Report {
         ticks: probe.ticks,

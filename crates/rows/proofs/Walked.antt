@@ -9,7 +9,7 @@ use lib.Dec.{leb, leb·suc-zero, leb·suc-suc}
 use borrow.Author.Tests.{le-leb, lt-leb}
 use lib.Ieee.{Float, binary32, add}
 use Rattle.window.specs.Walk.{run, over, markAt, isRow}
-use Rattle.window.proofs.Tallies.{run-at-most}
+use Rattle.window.proofs.Bounds.{run-at-most}
 use Rattle.rows.specs.Rows.{each}
 use Rattle.rows.proofs.Each.{each-each, each-same}
 

@@ -1,5 +1,5 @@
 pub mod Marked
 pub mod Rows
 pub mod Arrays
-pub mod Tallies
+pub mod Bounds
 pub mod Prefix

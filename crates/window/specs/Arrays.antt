@@ -2,16 +2,13 @@
 use Prim.Native.Nat.{ℕ, zero, suc, min}
 use mathlib.Core.Bool.{Bool, true, false, cond}
 use mathlib.Core.List.{List}
-use lib.Dec.{leb}
 use lib.ListN.{take, set}
 use lib.Ieee.{Float, binary32, add}
 use Rattle.float.specs.Values.{zero32, finite}
 use Rattle.float.specs.Series.{at}
 use Rattle.window.specs.declared.Window.{Window}
-use Rattle.window.specs.declared.Counts.{Counts}
-use Rattle.window.specs.declared.Tally.{Tally}
 use Rattle.window.specs.Samples.{Samples, capacity, room}
-use Rattle.window.specs.Walk.{markAt, isHeld, isWarm, isRow, run, over}
+use Rattle.window.specs.Walk.{markAt, over}
 
 -- how many samples are stored: never more than there is room for, whatever the struct says
 unfoldable pub storedOf : Window → ℕ
@@ -50,24 +47,3 @@ nextWindow w dt = pickWindow (room (storedOf w)) (record { len = suc (storedOf w
 -- how many of the first n ticks are such
 unfoldable pub manyTo : (Bool → ℕ → Bool) → List Bool → ℕ → ℕ
 manyTo such marks n = over such (markAt marks) (λ (m k : ℕ). suc m) 0 n
-
-unfoldable pub countsTo : List Bool → ℕ → Counts
-countsTo marks n = record { held = manyTo isHeld marks n; warm = manyTo isWarm marks n; rows = manyTo isRow marks n }
-
--- the counts of the first ticks, and the run that ends with the last of them
-unfoldable pub tallyTo : List Bool → ℕ → Tally
-tallyTo marks n = record {
-  held = manyTo isHeld marks n;
-  warm = manyTo isWarm marks n;
-  rows = manyTo isRow marks n;
-  run = run (markAt marks) n;
-}
-
-abbrev pub talliedGood : Bool → Tally → Tally
-talliedGood true t = record { held = t .held; warm = t .warm; rows = suc (t .rows); run = suc (t .run) }
-talliedGood false t = record { held = t .held; warm = suc (t .warm); rows = t .rows; run = suc (t .run) }
-
--- one more tick: held, warm or a row
-unfoldable pub tallied : Tally → Bool → Tally
-tallied t true = record { held = suc (t .held); warm = t .warm; rows = t .rows; run = 0 }
-tallied t false = talliedGood (leb 11 (t .run)) t

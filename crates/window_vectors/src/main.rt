@@ -6,7 +6,7 @@ use vectors::flag;
 use vectors::float_at;
 use vectors::is_at;
 use vectors::word_at;
-use window::Counts;
+use counting::Counts;
 use window::Window;
 ghost use Prim.Native.Nat.{_≤_, _<_};
 
@@ -63,7 +63,7 @@ fn counts(pattern: u32, before: u32, n: u32) -> Counts {
             0.0,
         );
     }
-    window::count_ticks(w, &held)
+    counting::count_ticks(w, &held)
 }
 
 // Whether counts are the three bytes at a place: held, warm, rows.
@@ -138,7 +138,7 @@ fn samples_agree(
 fn totals_agree(w: Window, held: &[bool; 2048], s: &[u8], at: usize) -> bool
     requires { ⌜ at ≤ 100000 ⌝ }
 {
-    let c = window::count_ticks(w, held);
+    let c = counting::count_ticks(w, held);
     (stored(w) == (word_at(s, at) as usize))
         & (c.held == (word_at(s, at + 4) as usize))
         & (c.warm == (word_at(s, at + 8) as usize))

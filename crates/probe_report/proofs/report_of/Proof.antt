@@ -1,7 +1,7 @@
 -- `report_of` fills the fields of the report of the probe that is seen; its counts are those of the stored ticks.
 use mathlib.Core.Path.{sym}
 use borrow.Author.Needs.{needs}
-use Rattle.window.specs.Arrays.{countsTo}
+use Rattle.counting.specs.Tally.{countsTo}
 use Rattle.probe_report.proofs.Counting.{counted}
 use Rattle.probe_report.proofs.report_of.Statement.{statement}
 use Rattle.probe_report.proofs.report_of.Tie as tie

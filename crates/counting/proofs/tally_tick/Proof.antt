@@ -2,9 +2,9 @@
 use native.Mathlib.Numerals.{add-one}
 use borrow.Author.Needs.{needs}
 use borrow.Author.Tests.{le-leb, lt-leb}
-use Rattle.window.specs.Arrays.{tallied}
-use Rattle.window.proofs.tally_tick.Statement.{statement}
-use Rattle.window.proofs.tally_tick.Tie as tie
+use Rattle.counting.specs.Tally.{tallied}
+use Rattle.counting.proofs.tally_tick.Statement.{statement}
+use Rattle.counting.proofs.tally_tick.Tie as tie
 
 add-t4 : tie.Need-add-t4
 add-t4 c = search needs

@@ -1,31 +1,14 @@
 -- A tally goes on tick by tick, and none of its counts is above the ticks.
-use Prim.Native.Nat.{ℕ, zero, suc, _≤_}
+use Prim.Native.Nat.{ℕ, suc, _≤_}
 use mathlib.Core.Path.{_≡_, refl}
 use mathlib.Core.Bool.{Bool, true, false, cond}
 use mathlib.Core.List.{List}
-use native.Mathlib.Omega.{arith}
 use lib.Dec.{leb}
-use Rattle.window.specs.declared.Tally.{Tally}
+use Rattle.counting.specs.declared.Tally.{Tally}
 use Rattle.window.specs.Walk.{run, over, markAt, isHeld, isWarm, isRow}
-use Rattle.window.specs.Arrays.{manyTo, tallyTo, tallied}
-
-at-most : (b : Bool) (m n : ℕ) → m ≤ n → cond b (suc m) m ≤ suc n
-at-most true m n h = omega arith
-at-most false m n h = omega arith
-
-many-at-most : (such : Bool → ℕ → Bool) (marks : List Bool) (n : ℕ) → manyTo such marks n ≤ n
-unfolding manyTo over
-many-at-most such marks zero = omega arith
-many-at-most such marks (suc n) = at-most (such (markAt marks n) (run (markAt marks) n)) (manyTo such marks n) n (many-at-most such marks n)
-
-emptied : (b : Bool) (m n : ℕ) → m ≤ n → cond b 0 (suc m) ≤ suc n
-emptied true m n h = omega arith
-emptied false m n h = omega arith
-
-pub run-at-most : (mark : ℕ → Bool) (n : ℕ) → run mark n ≤ n
-unfolding run
-run-at-most mark zero = omega arith
-run-at-most mark (suc n) = emptied (mark n) (run mark n) n (run-at-most mark n)
+use Rattle.window.specs.Arrays.{manyTo}
+use Rattle.window.proofs.Bounds.{many-at-most, run-at-most}
+use Rattle.counting.specs.Tally.{tallyTo, tallied}
 
 pub record Few (t : Tally) (n : ℕ) : Type 0 where
   pub held : t .held ≤ n

@@ -4,11 +4,12 @@ use mathlib.Core.Path.{_≡_, refl}
 use native.Mathlib.Omega.{arith}
 use native.Mathlib.Numerals.{add-one}
 use borrow.Author.Needs.{needs}
 use Rattle.window.specs.Walk.{run, over}
-use Rattle.window.specs.Arrays.{storedOf, countsTo, tallyTo, manyTo}
-use Rattle.window.proofs.Tallies.{few, tally-next}
-use Rattle.window.proofs.count_ticks.Statement.{statement}
-use Rattle.window.proofs.count_ticks.Tie as tie
+use Rattle.window.specs.Arrays.{storedOf, manyTo}
+use Rattle.counting.specs.Tally.{countsTo, tallyTo}
+use Rattle.counting.proofs.Tallies.{few, tally-next}
+use Rattle.counting.proofs.count_ticks.Statement.{statement}
+use Rattle.counting.proofs.count_ticks.Tie as tie
 
 abbrev Inv-loop : tie.InvT-loop
 Inv-loop held n t₀ k₀ t k = (k ≤ n) × (t ≡ tallyTo held k)
