@@ -1,12 +1,12 @@
 // Replays vector files for the window, and prints how many records each file has and how many of them agree to the last bit.
 // The data are the reference's answers, written by the command in host/README.md with seed 1; window_patterns.bin has every
 // pattern of good and bad readings up to length 14. Words are big-endian.
+use counting::Counts;
 use vectors::Tally;
 use vectors::flag;
 use vectors::float_at;
 use vectors::is_at;
 use vectors::word_at;
-use counting::Counts;
 use window::Window;
 ghost use Prim.Native.Nat.{_≤_, _<_};
 
