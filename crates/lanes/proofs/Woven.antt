@@ -8,7 +8,7 @@ use lib.ListN.{length, set}
 use lib.Ieee.{Float, nan}
 use Rattle.float.specs.Series.{fill, at}
 use Rattle.float.proofs.Fill.{filled}
-use Rattle.gain.specs.Prepared.{laneCount, woven}
+use Rattle.lanes.specs.Lanes.{laneCount, woven}
 
 module _ (f : ℕ → ℕ → Float) (l : List Float) where
   pub pair-more : (k q : ℕ) → q < 3

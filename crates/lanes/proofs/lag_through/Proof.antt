@@ -1,4 +1,4 @@
--- `gain::lag_through` meets its contract. The outer loop's invariant: lagged, and last in f64, have the first k moments in them at every pole, and xs is filled with k ticks;
+-- `lanes::lag_through` meets its contract. The outer loop's invariant: lagged, and last in f64, have the first k moments in them at every pole, and xs is filled with k ticks;
 -- the inner loop's: the poles below q have moment k too (`Poles`, proofs/Poles.antt), and their pairs are in xs. The measures are the ticks and the poles left.
 use Prim.Native.Nat.{_≤_, _-_, _+_, _*_}
 use mathlib.Core.Path.{_≡_, refl, ap, _∙_}
@@ -9,22 +9,25 @@ use lib.Ieee.{Float, ofBits}
 use borrow.Author.Needs.{needs}
 use Rattle.float.specs.Series.{at, fill}
 use Rattle.lags.specs.Lags.{lagTo}
-use Rattle.gain.specs.Prepared.{laneCount}
-use Rattle.gain.proofs.Poles.{lanesTo, pole-more, Poles, begin, on, turn}
-use Rattle.gain.proofs.lag_through.Statement.{statement}
-use Rattle.gain.proofs.lag_through.Tie as tie
+use Rattle.lanes.specs.Lanes.{laneCount}
+use Rattle.lanes.proofs.Poles.{lanesTo, pole-more, Poles, begin, on, turn}
+use Rattle.lanes.proofs.lag_through.Statement.{statement}
+use Rattle.lanes.proofs.lag_through.Tie as tie
 
 abbrev Inv-loop2 : tie.InvT-loop2
-Inv-loop2 moments len xs₀ poles lagged₀ last₀ k moment q₀ xs lagged last q = (q ≤ 3) × Poles poles (at moments) k q lagged × Poles poles (at moments) k q last × ((l : List Float) → xs₀ ≡ lanesTo poles (at moments) l (k * laneCount) → xs ≡ lanesTo poles (at moments) l (k * laneCount + q * 2))
+Inv-loop2 moments len xs₀ poles n lagged₀ last₀ k moment q₀ xs lagged last q = (q ≤ 3) × Poles poles (at moments) k q lagged × Poles poles (at moments) k q last × ((l : List Float) → xs₀ ≡ lanesTo poles (at moments) l (k * laneCount) → xs ≡ lanesTo poles (at moments) l (k * laneCount + q * 2))
 
 abbrev μ-loop2 : tie.MeasureT-loop2
-μ-loop2 moments len xs₀ poles lagged₀ last₀ k moment q₀ xs lagged last q = 3 - q
+μ-loop2 moments len xs₀ poles n lagged₀ last₀ k moment q₀ xs lagged last q = 3 - q
 
 abbrev Inv-loop : tie.InvT-loop
-Inv-loop moments len xs₀ poles lagged₀ last₀ k₀ xs lagged last k = (k ≤ len) × Poles poles (at moments) k 0 lagged × Poles poles (at moments) k 0 last × (xs ≡ lanesTo poles (at moments) xs₀ (k * laneCount))
+Inv-loop moments len xs₀ poles n lagged₀ last₀ k₀ xs lagged last k = (k ≤ n) × Poles poles (at moments) k 0 lagged × Poles poles (at moments) k 0 last × (xs ≡ lanesTo poles (at moments) xs₀ (k * laneCount))
 
 abbrev μ-loop : tie.MeasureT-loop
-μ-loop moments len xs₀ poles lagged₀ last₀ k₀ xs lagged last k = len - k
+μ-loop moments len xs₀ poles n lagged₀ last₀ k₀ xs lagged last k = n - k
+
+stored-requires : tie.Need-stored-requires Inv-loop2 μ-loop2 Inv-loop μ-loop
+stored-requires c κs = search needs
 
 loop-holds : tie.Need-loop-holds Inv-loop2 μ-loop2 Inv-loop μ-loop
 unfolding fill ofBits
@@ -115,7 +118,7 @@ loop2-less c = omega arith
 loop2-again : tie.Need-loop2-again Inv-loop2 μ-loop2 Inv-loop μ-loop
 unfolding lagTo
 loop2-again c =
-    let p = c .before .before .before .before .before in let h = p .loop2 .inv in let t = p .before .before .before in let a = t .before .args in
+    let p = c .before .before .before .before .before in let h = p .loop2 .inv in let t = p .before .before .before in let a = t .before .before .args in
     let o = h .2 .left (p .loop2 .q) (omega arith) (omega arith) in
     let n : c .before .before .before .lag-on .result ≡ lagTo (at (a .t2) (p .loop2 .q)) (at (a .moments .now)) (t .loop .k + 1) =
     c .before .before .before .lag-on .ensures ∙ rw (add-one, h .1 .left (p .loop2 .q) (omega arith) (omega arith)) refl in
@@ -138,7 +141,7 @@ loop-again c =
     (omega arith, on _ _ _ _ (h .1), on _ _ _ _ (h .2), h .3 _ (c .before .before .before .before .loop .inv .3) ∙ ap (fill _ _) (omega arith))
 
 returns : tie.Need-returns Inv-loop2 μ-loop2 Inv-loop μ-loop
-returns c = let e : c .before .loop .k ≡ c .before .before .args .len = omega arith in rw (← e) (c .before .loop .inv .3)
+returns c = let l = c .before .loop in let n = c .before .before .stored in let e : l .k ≡ n .result = omega arith in rw (← (n .ensures), ← e) (l .inv .3)
 
 pub lag-through-spec : {M : Type 1} → statement M
 lag-through-spec =
@@ -148,6 +151,7 @@ lag-through-spec =
     μ-loop2
     Inv-loop
     μ-loop
+    stored-requires
     loop-holds
     mul-moment
     element-copy-out-moment

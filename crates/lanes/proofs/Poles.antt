@@ -12,9 +12,9 @@ use lib.Ieee.{Float, nan}
 use Rattle.float.specs.Values.{zero32}
 use Rattle.float.specs.Series.{at, fill}
 use Rattle.lags.specs.Lags.{lagTo}
 use Rattle.gain.specs.Gain.{blend, felt}
-use Rattle.gain.specs.Prepared.{laneCount, woven, laneSeries}
-use Rattle.gain.proofs.Woven.{pair-more}
+use Rattle.lanes.specs.Lanes.{laneCount, woven, laneSeries}
+use Rattle.lanes.proofs.Woven.{pair-more}
 
 module _ (poles : List Float) (u : ℕ → Float) where
   -- the lanes of pole q: its whole ticks, and then its half ticks
