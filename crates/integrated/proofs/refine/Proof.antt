@@ -5,14 +5,14 @@ use mathlib.Core.Path.{_≡_, refl, sym, _∙_}
 use native.Mathlib.Omega.{arith}
 use borrow.Author.Needs.{needs}
 use Rattle.float.specs.Series.{at}
-use Rattle.gain.specs.Prepared.{fitAt}
+use Rattle.gain.specs.Prepared.{fitWith}
 use Rattle.integrated.specs.Golden.{maxRounds, golden, refined}
 use Rattle.integrated.proofs.Rounds.{done, no-left, no-right, keep-left, keep-right}
 use Rattle.integrated.proofs.refine.Statement.{statement}
 use Rattle.integrated.proofs.refine.Tie as tie
 
 abbrev Inv-loop : tie.InvT-loop
-Inv-loop moments cs ts w step low₀ high₀ best₀ rounds₀ low high best rounds = (rounds ≤ maxRounds) × (golden (fitAt (w .carry) (at moments) (at cs) (at ts) (w .ticks) step) (maxRounds - rounds) low high best rounds ≡ golden (fitAt (w .carry) (at moments) (at cs) (at ts) (w .ticks) step) maxRounds low₀ high₀ best₀ 0)
+Inv-loop moments cs ts w step low₀ high₀ best₀ rounds₀ low high best rounds = (rounds ≤ maxRounds) × (golden (fitWith w (at moments) (at cs) (at ts) step) (maxRounds - rounds) low high best rounds ≡ golden (fitWith w (at moments) (at cs) (at ts) step) maxRounds low₀ high₀ best₀ 0)
 
 abbrev μ-loop : tie.MeasureT-loop
 μ-loop moments cs ts w step low₀ high₀ best₀ rounds₀ low high best rounds = maxRounds - rounds
@@ -21,10 +21,10 @@ loop-holds : tie.Need-loop-holds Inv-loop μ-loop
 loop-holds c = (omega arith, refl)
 
 fit-at-requires : tie.Need-fit-at-requires Inv-loop μ-loop
-fit-at-requires c κs = c .before .before .pre
+fit-at-requires c κs = search needs
 
 fit-at-requires-2 : tie.Need-fit-at-requires-2 Inv-loop μ-loop
-fit-at-requires-2 c κs = c .before .before .before .pre
+fit-at-requires-2 c κs = search needs
 
 add-rounds : tie.Need-add-rounds Inv-loop μ-loop
 add-rounds c = omega arith
