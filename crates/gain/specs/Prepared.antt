@@ -1,6 +1,6 @@
 -- What the code keeps for the gain fits of a window: the two leaky series that no pole and no step is in, and their sums.
 -- Inner functions are stated by these; the fit itself is in Gain.antt.
-use Prim.Native.Nat.{ℕ, _+_, _-_, min}
+use Prim.Native.Nat.{ℕ, min}
 use mathlib.Core.Path.{_≡_}
 use mathlib.Core.List.{List}
 use lib.Ieee.{Float, binary64}
@@ -9,7 +9,7 @@ use Rattle.float.specs.Series.{at, dotTo, fill}
 use Rattle.gain.specs.declared.GainFit.{GainFit}
 use Rattle.gain.specs.declared.Shared.{Shared}
 use Rattle.gain.specs.declared.StepSums.{StepSums}
-use Rattle.gain.specs.Gain.{firstTick, wholeTicksOf, regressor, change, through, solved}
+use Rattle.gain.specs.Gain.{regressor, change, through, solved}
 
 -- a series as the entries of a fill
 abbrev pub series : (ℕ → Float) → ℕ → List Float → Float
@@ -22,10 +22,6 @@ mostTicks = 2037
 -- the ticks that are fitted, at most those of a full window
 abbrev pub ticksOf : Shared → ℕ
 ticksOf w = min (w .ticks) mostTicks
-
--- where the moments of step s begin: at the newer one of tick 11
-abbrev pub firstMoment : ℕ → ℕ
-firstMoment s = firstTick + 1 - wholeTicksOf s
 
 -- the fit of a series m beside two leaky series c and t, with the sums of these as they are kept
 unfoldable pub fittedWith : Shared → (m c t : ℕ → Float) → GainFit

@@ -1,12 +1,11 @@
-// Gain fits: least squares of the integrated rate on the integrated lagged moment and a constant.
+// What gain fits are made of: the series and their leaky sums, what a window's fits share, and the solution of the six sums.
 ghost use mathlib.Core.Path.{_≡_};
 ghost use Prim.Native.Nat.{_-_, _≤_, min};
 ghost use lib.Ieee.{binary32, binary64, add, sub, mul};
 ghost use Rattle.float.specs.Values.{one32, one64};
 ghost use Rattle.float.specs.Series.{at, dotTo, fill};
-ghost use Rattle.lags.specs.Lags.{lagTo};
-ghost use Rattle.gain.specs.Gain.{firstTick, blend as blendOf, regressor, change, through, solved, gainFit};
-ghost use Rattle.gain.specs.Prepared.{series, ticksOf, firstMoment, fitWith, Summed, Prepared};
+ghost use Rattle.gain.specs.Gain.{firstTick, blend as blendOf, change, through, solved};
+ghost use Rattle.gain.specs.Prepared.{series, ticksOf, Prepared};
 
 // One gain fit: the gain and the residual, or no fit.
 pub enum GainFit {
@@ -136,62 +135,7 @@ pub fn prepare(
     }
 }
 
-// Where the moments of a step begin: at the one that tick 11 meets, 12 less the whole ticks.
-fn first_moment(step: usize) -> usize
-    ensures { λ r. ⌜ r ≡ firstMoment step ⌝ }
-{
-    let whole = step / 2 + 1;
-    if 12 <= whole {
-        return 0;
-    }
-    12 - whole
-}
-
-// The first n moments through a lag.
-fn lag_before(moments: &[f32; 2048], pole: f32, n: usize) -> f32
-    requires { ⌜ n ≤ 2048 ⌝ }
-    ensures { λ r. ⌜ r ≡ lagTo pole (at (now (moments .entry))) n ⌝ }
-{
-    let mut lagged = 0.0f32;
-    for k in 0..n {
-        lagged = lag_on(pole, lagged, moments[k]);
-    }
-    lagged
-}
-
-// The sums of one step at one pole, over n ticks.
-fn step_sums(
-    moments: &[f32; 2048],
-    cs: &[f64; 2048],
-    ts: &[f64; 2048],
-    carry: f64,
-    step: usize,
-    pole: f32,
-    n: usize,
-) -> StepSums
-    requires { ⌜ n ≤ 2037 ⌝ }
-    ensures { λ r. ⌜ Summed (through carry (regressor step pole (at (now (moments .entry))))) (at (now (cs .entry))) (at (now (ts .entry))) n r ⌝ }
-{
-    let first = first_moment(step);
-    let mut lagged = lag_before(moments, pole, first);
-    let mut last = std::num::f32_to_f64_with_nan(lagged);
-    let mut m = 0.0f64;
-    let mut mm = 0.0f64;
-    let mut mc = 0.0f64;
-    let mut mt = 0.0f64;
-    for i in 0..n {
-        lagged = lag_on(pole, lagged, moments[first + i]);
-        let now = std::num::f32_to_f64_with_nan(lagged);
-        m = carry * m + blend(step % 2, now, last);
-        mm = mm + m * m;
-        mc = mc + m * cs[i];
-        mt = mt + m * ts[i];
-        last = now;
-    }
-    StepSums { mm, mc, mt }
-}
-
-// ---- the fit
+// ---- the solution
 
 // The gain and the residual of the six sums.
 pub fn solve(mm: f64, mc: f64, cc: f64, mt: f64, ct: f64, tt: f64) -> GainFit
@@ -206,36 +150,4 @@ pub fn solve(mm: f64, mc: f64, cc: f64, mt: f64, ct: f64, tt: f64) -> GainFit
     } else {
         GainFit::Nothing
     }
-}
-
-// The fit of a step at a pole, from a window's moments, its two leaky series and their sums.
-pub fn fit_at(
-    moments: &[f32; 2048],
-    cs: &[f64; 2048],
-    ts: &[f64; 2048],
-    w: Shared,
-    step: usize,
-    pole: f32,
-) -> GainFit
-    ensures { λ r. ⌜ r ≡ fitWith w (at (now (moments .entry))) (at (now (cs .entry))) (at (now (ts .entry))) step pole ⌝ }
-{
-    let s = step_sums(moments, cs, ts, w.carry, step, pole, w.fitted());
-    solve(s.mm, s.mc, w.cc, s.mt, w.ct, w.tt)
-}
-
-// One gain fit of a window, whatever the step and the pole.
-pub fn fit_gain(
-    rates: &[f32; 2048],
-    moments: &[f32; 2048],
-    len: usize,
-    carry: f64,
-    step: usize,
-    pole: f32,
-) -> GainFit
-    ensures { λ r. ⌜ r ≡ gainFit carry (at (now (moments .entry))) (at (now (rates .entry))) (min len 2048 - firstTick) step pole ⌝ }
-{
-    let mut cs = [0.0f64; 2048];
-    let mut ts = [0.0f64; 2048];
-    let w = prepare(rates, carry, len, &mut cs, &mut ts);
-    fit_at(moments, &cs, &ts, w, step, pole)
 }

@@ -7,22 +7,16 @@ ghost use Rattle.delay.specs.declared.Entry.the-variants as entry;
 ghost use Rattle.delay.specs.Tie.{entryCount};
 ghost use Rattle.gain.specs.Gain.{firstTick, stepCount, isHalf};
 ghost use Rattle.gain.specs.Prepared.{fitWith};
-ghost use Rattle.integrated.specs.Golden.{betterOf, maxRounds, refined};
+ghost use Rattle.golden.specs.Golden.{maxRounds};
 ghost use Rattle.integrated.specs.Integrated.{entryOf, newerShare, olderShare, modelOf, modelled as modelledOf, noModel, chosenFrom, searched, windowFit, fitIntegrated};
 use delay::Delay;
 use delay::Entry;
 use delay::Position;
 use delay::RateModel;
-use gain::GainFit;
 use gain::Shared;
+use golden::Refined;
 use grid::Kept;
 use grid::LagFit;
-
-// What the refinement yields: the best candidate and the rounds made.
-pub struct Refined {
-    pub best: LagFit,
-    pub rounds: u32,
-}
 
 pub enum Fitted {
     Nothing,
@@ -33,74 +27,6 @@ pub enum Fitted {
 pub struct IntegratedFit {
     pub fitted: Fitted,
     pub gain_fits: u32,
-}
-
-// ---- the refinement
-
-fn better(best: LagFit, kept: LagFit) -> LagFit
-    ensures { λ r. ⌜ r ≡ betterOf best kept ⌝ }
-{
-    if kept.residual < best.residual {
-        kept
-    } else {
-        best
-    }
-}
-
-// A golden-section search between the ends of a candidate, at one step.
-fn refine(
-    moments: &[f32; 2048],
-    cs: &[f64; 2048],
-    ts: &[f64; 2048],
-    w: Shared,
-    step: usize,
-    grid_fit: LagFit,
-) -> Refined
-    ensures { λ r. ⌜ (r ≡ refined (fitWith w (at (now (moments .entry))) (at (now (cs .entry))) (at (now (ts .entry))) step) «grid_fit») × (r .rounds ≤ maxRounds) ⌝ }
-{
-    let mut low = grid_fit.low;
-    let mut high = grid_fit.high;
-    let mut best = grid_fit;
-    let mut rounds: u32 = 0;
-    while rounds < 12 {
-        let left = high - 0.618034 * (high - low);
-        let right = low + 0.618034 * (high - low);
-        let left_fit = gain::fit_at(moments, cs, ts, w, step, left);
-        let right_fit = gain::fit_at(moments, cs, ts, w, step, right);
-        rounds += 1;
-        let GainFit::Fit(left_gain, left_residual) = left_fit else {
-            break;
-        };
-        let GainFit::Fit(right_gain, right_residual) = right_fit else {
-            break;
-        };
-        if left_residual < right_residual {
-            best = better(
-                best,
-                LagFit {
-                    pole: left,
-                    low: low,
-                    high: high,
-                    gain: left_gain,
-                    residual: left_residual,
-                },
-            );
-            high = right;
-        } else {
-            best = better(
-                best,
-                LagFit {
-                    pole: right,
-                    low: low,
-                    high: high,
-                    gain: right_gain,
-                    residual: right_residual,
-                },
-            );
-            low = left;
-        }
-    }
-    Refined { best, rounds }
 }
 
 // ---- the model
@@ -198,7 +124,7 @@ fn choose(
     let Kept::Best(b) = k else {
         return no_model(2580);
     };
-    modelled(refine(moments, cs, ts, w, step, b), position, dt_s)
+    modelled(golden::refine(moments, cs, ts, w, step, b), position, dt_s)
 }
 
 // The grid, the tie rule and the refinement, from a window's moments, its leaky series and their sums.

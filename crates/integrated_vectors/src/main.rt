@@ -54,7 +54,7 @@ fn gain_agrees(s: &[u8]) -> bool {
     let mut lagged = [0.0f32; 2048];
     load(s, 16, n, &mut rates);
     load(s, 20, n, &mut lagged);
-    let fit = gain::fit_gain(
+    let fit = trial::fit_gain(
         &rates,
         &lagged,
         n,

@@ -1,4 +1,4 @@
--- `gain::lag_before` meets its contract. The loop's invariant: lagged is the first k moments through the lag. The measure is the moments left.
+-- `trial::lag_before` meets its contract. The loop's invariant: lagged is the first k moments through the lag. The measure is the moments left.
 use Prim.Native.Nat.{_≤_, _-_}
 use mathlib.Core.Path.{_≡_, refl}
 use native.Mathlib.Numerals.{add-one}
@@ -6,8 +6,8 @@ use native.Mathlib.Omega.{arith}
 use borrow.Author.Needs.{needs}
 use Rattle.float.specs.Series.{at}
 use Rattle.lags.specs.Lags.{lagTo}
-use Rattle.gain.proofs.lag_before.Statement.{statement}
-use Rattle.gain.proofs.lag_before.Tie as tie
+use Rattle.trial.proofs.lag_before.Statement.{statement}
+use Rattle.trial.proofs.lag_before.Tie as tie
 
 abbrev Inv-loop : tie.InvT-loop
 Inv-loop moments pole n lagged₀ k₀ lagged k = (k ≤ n) × (lagged ≡ lagTo pole (at moments) k)

@@ -1,4 +1,4 @@
--- `integrated::refine` meets its contract. The loop's invariant: what is left of the search gives the answer. A round goes by the laws of proofs/Rounds.antt.
+-- `golden::refine` meets its contract. The loop's invariant: what is left of the search gives the answer. A round goes by the laws of proofs/Rounds.antt.
 -- The measure is the rounds left.
 use Prim.Native.Nat.{_≤_, _-_}
 use mathlib.Core.Path.{_≡_, refl, sym, _∙_}
@@ -6,10 +6,10 @@ use native.Mathlib.Omega.{arith}
 use borrow.Author.Needs.{needs}
 use Rattle.float.specs.Series.{at}
 use Rattle.gain.specs.Prepared.{fitWith}
-use Rattle.integrated.specs.Golden.{maxRounds, golden, refined}
-use Rattle.integrated.proofs.Rounds.{done, no-left, no-right, keep-left, keep-right}
-use Rattle.integrated.proofs.refine.Statement.{statement}
-use Rattle.integrated.proofs.refine.Tie as tie
+use Rattle.golden.specs.Golden.{maxRounds, golden, refined}
+use Rattle.golden.proofs.Rounds.{done, no-left, no-right, keep-left, keep-right}
+use Rattle.golden.proofs.refine.Statement.{statement}
+use Rattle.golden.proofs.refine.Tie as tie
 
 abbrev Inv-loop : tie.InvT-loop
 Inv-loop moments cs ts w step low₀ high₀ best₀ rounds₀ low high best rounds = (rounds ≤ maxRounds) × (golden (fitWith w (at moments) (at cs) (at ts) step) (maxRounds - rounds) low high best rounds ≡ golden (fitWith w (at moments) (at cs) (at ts) step) maxRounds low₀ high₀ best₀ 0)

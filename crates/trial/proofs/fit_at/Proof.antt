@@ -1,9 +1,9 @@
--- `gain::fit_at` meets its contract: what it solves is the fit of the step's series beside the two leaky ones (`solved-is`, proofs/Window.antt).
+-- `trial::fit_at` meets its contract: what it solves is the fit of the step's series beside the two leaky ones (`solved-is`, gain's proofs/Window.antt).
 use mathlib.Core.Path.{_∙_}
 use borrow.Author.Needs.{needs}
 use Rattle.gain.proofs.Window.{solved-is}
-use Rattle.gain.proofs.fit_at.Statement.{statement}
-use Rattle.gain.proofs.fit_at.Tie as tie
+use Rattle.trial.proofs.fit_at.Statement.{statement}
+use Rattle.trial.proofs.fit_at.Tie as tie
 
 fitted-requires : tie.Need-fitted-requires
 fitted-requires c κs = search needs

@@ -1,15 +1,15 @@
--- `gain::fit_gain` meets its contract: it is the fit from the prepared series, which is the window's (`window-fit`, proofs/Window.antt).
+-- `trial::fit_gain` meets its contract: it is the fit from the prepared series, which is the window's (`window-fit`, gain's proofs/Window.antt).
 use Prim.Native.Nat.{_-_, _≤_, min}
 use mathlib.Core.Path.{_∙_}
 use native.Mathlib.Omega.{arith}
 use lib.ListN.{length, replicate, length-replicate}
 use Rattle.float.specs.Values.{zero64}
 use Rattle.float.specs.Series.{at}
 use Rattle.gain.specs.Gain.{firstTick}
 use Rattle.gain.proofs.Window.{window-fit}
 use borrow.Author.Needs.{needs}
-use Rattle.gain.proofs.fit_gain.Statement.{statement}
-use Rattle.gain.proofs.fit_gain.Tie as tie
+use Rattle.trial.proofs.fit_gain.Statement.{statement}
+use Rattle.trial.proofs.fit_gain.Tie as tie
 
 prepare-requires : tie.Need-prepare-requires
 prepare-requires c κs = search needs

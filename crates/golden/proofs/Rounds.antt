@@ -8,7 +8,7 @@ use lib.Ieee.{Float, lt}
 use Rattle.gain.specs.declared.GainFit.{GainFit}
 use Rattle.gain.specs.declared.GainFit.the-variants.{Nothing, Fit}
 use Rattle.grid.specs.declared.LagFit.{LagFit}
-use Rattle.integrated.specs.Golden.{golden, tried, betterOf, leftOf, rightOf, maxRounds}
+use Rattle.golden.specs.Golden.{golden, tried, betterOf, leftOf, rightOf, maxRounds}
 
 pub done : (fit : Float → GainFit) (r : ℕ) (low high : Float) (best : LagFit) → maxRounds ≤ r
     → golden fit (maxRounds - r) low high best r ≡ record { best = best; rounds = r }

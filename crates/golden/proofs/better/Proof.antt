@@ -1,7 +1,7 @@
--- `integrated::better` meets its contract, a case for each arm of its test.
-use Rattle.integrated.specs.Golden.{betterOf}
-use Rattle.integrated.proofs.better.Statement.{statement}
-use Rattle.integrated.proofs.better.Tie as tie
+-- `golden::better` meets its contract, a case for each arm of its test.
+use Rattle.golden.specs.Golden.{betterOf}
+use Rattle.golden.proofs.better.Statement.{statement}
+use Rattle.golden.proofs.better.Tie as tie
 
 returns : tie.Need-returns
 unfolding betterOf

@@ -1,15 +1,15 @@
--- `gain::step_sums` meets its contract. The loop's invariant: lagged, and last in f64, are the moments before first + i through the lag, and m and the three sums are those of the places before i
--- (`Running`, proofs/Accumulators.antt). The measure is the places left.
+-- `trial::step_sums` meets its contract. The loop's invariant: lagged, and last in f64, are the moments before first + i through the lag, and m and the three sums are those of the places before i
+-- (`Running`, gain's proofs/Accumulators.antt). The measure is the places left.
 use Prim.Native.Nat.{suc, _≤_, _-_, _+_}
 use mathlib.Core.Path.{_≡_, refl, _∙_}
 use native.Mathlib.Omega.{arith}
 use borrow.Author.Needs.{needs}
 use Rattle.float.specs.Series.{at}
 use Rattle.lags.specs.Lags.{lagTo}
 use Rattle.gain.specs.Gain.{felt, regressor}
 use Rattle.gain.proofs.Accumulators.{Running, start, next}
-use Rattle.gain.proofs.step_sums.Statement.{statement}
-use Rattle.gain.proofs.step_sums.Tie as tie
+use Rattle.trial.proofs.step_sums.Statement.{statement}
+use Rattle.trial.proofs.step_sums.Tie as tie
 
 abbrev Inv-loop : tie.InvT-loop
 Inv-loop moments cs ts carry step pole n first lagged₀ last₀ m₀ mm₀ mc₀ mt₀ i₀ lagged last m mm mc mt i = (i ≤ n) × (lagged ≡ lagTo pole (at moments) (first + i)) × (last ≡ lagTo pole (at moments) (first + i)) × Running carry (regressor step pole (at moments)) (at cs) (at ts) i m (record { mm = mm; mc = mc; mt = mt })
