@@ -38,7 +38,7 @@ unfolding keptAt
 table-first dt fit kept e = record { is = e; first = λ s p. rw (e, table-at (keptAt dt fit) s p) (keeps-first _ (suc lagCount)) }
 
 -- one more pole against a table is a table, step by step
-pub table-against : (pole low high : Float) (fits : List GainFit) (q : ℕ) (kept next : ℕ → Kept)
+table-against : (pole low high : Float) (fits : List GainFit) (q : ℕ) (kept next : ℕ → Kept)
     → ((s : ℕ) → s < stepCount → keepOf (kept s) (candidate pole low high (getD fits (placeOf q s) Nothing)) ≡ next s)
     → fill (against pole low high fits q) (tableOf kept) stepCount ≡ tableOf next
 table-against pole low high fits q kept next e =
@@ -51,7 +51,7 @@ table-against pole low high fits q kept next e =
     ∙ e s h ∙ sym (table-at next s h))
 
 -- the pole above, by its place
-pub above : (pole : ℕ → Float) (last i : ℕ) → i ≤ last → highEnd pole last i ≡ pole (min (i + 1) last)
+above : (pole : ℕ → Float) (last i : ℕ) → i ≤ last → highEnd pole last i ≡ pole (min (i + 1) last)
 above pole last i h = go (ltb i last) refl
   where
     go : (b : Bool) → ltb i last ≡ b → pickEnd b (pole (i + 1)) (pole i) ≡ pole (min (i + 1) last)
@@ -70,7 +70,7 @@ is-above : (dt p : Float) (i k : ℕ) → i ≤ lagCount → k ≡ i + 1 → p �
 is-above dt p i k h e q = q ∙ ap (upTo dt) e ∙ sym (above (poleOf dt) lagCount i h)
 
 -- what pole i leaves of the table, which is pole q of the three whose regressors are woven in xs
-pub pole-more : (dt : Float) (u : ℕ → Float) (cs ts l xs poles : List Float) (w : Shared) (i q : ℕ) (fits : List GainFit) (low high : Float) (kept : List Kept)
+pole-more : (dt : Float) (u : ℕ → Float) (cs ts l xs poles : List Float) (w : Shared) (i q : ℕ) (fits : List GainFit) (low high : Float) (kept : List Kept)
     → length l ≡ 12288 → q < 3 → at poles q ≡ poleOf dt i → low ≡ lowEnd (poleOf dt) i → high ≡ highEnd (poleOf dt) lagCount i
     → xs ≡ fill (woven (laneSeries poles u)) l ((ticksOf w + 11) * laneCount) → fits ≡ fill (placeFit xs cs ts w) (replicate placeCount Nothing) placeCount
     → kept ≡ tableOf (keptBelow dt (fitWith w u (at cs) (at ts)) i)

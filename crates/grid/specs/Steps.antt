@@ -1,4 +1,4 @@
--- What the grid's inner functions are stated by: tables of what the 20 steps keep.
+-- What the grid's functions are stated by: tables of what the 20 steps keep.
 use Prim.Native.Nat.{ℕ, suc, _<_}
 use mathlib.Core.Path.{_≡_}
 use mathlib.Core.List.{List}

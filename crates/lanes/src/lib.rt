@@ -5,7 +5,7 @@ ghost use Rattle.float.specs.Series.{at, fill};
 ghost use Rattle.lanes.specs.Lanes.{woven, laneCount, laneSeries};
 
 // The moments through three lags at once, as the regressors of three poles: six lanes a tick, for each pole its whole ticks and then its half ticks.
-// Three lags side by side do not wait for each other.
+// Three lags side by side do not wait for each other. A len above 2,048 is read as 2,048.
 pub fn lag_through(moments: &[f32; 2048], poles: [f32; 3], len: usize, xs: &mut [f64; 12288])
     ensures { λ r. ⌜ now (xs .exit) ≡ fill (woven (laneSeries poles (at (now (moments .entry))))) (now (xs .entry)) (min len 2048 * laneCount) ⌝ }
 {
