@@ -1,6 +1,6 @@
 // What both fits share: the one unit of a delay, the model, and the rule that picks a delay among fits that are as good.
 ghost use mathlib.Core.Path.{_≡_};
-ghost use Prim.Native.Nat.{_≤_};
+ghost use Prim.Native.Nat.{min};
 ghost use Rattle.delay.specs.HalfTicks.{ofRecorded, ofIntegrated, wholeTicks, halfTick};
 ghost use Rattle.delay.specs.Tie.{entryCount, considered as consideredOf, residuals, lesser as lesserOf, leastTo, within, firstFrom, shortestTied, delayToFit};
 
@@ -41,26 +41,29 @@ pub enum Residual {
 
 // ---- the unit
 
+// A position as a number of the rule's list: at most 20, its length.
+fn listed(position: usize) -> u32
+    ensures { λ r. ⌜ r ≡ min position entryCount ⌝ }
+{
+    if position < 20 { position as u32 } else { 20 }
+}
+
 impl Delay {
-    // The recorded fit tries whole ticks: its position p is p ticks. A position is at most 20, the length of the rule's list.
-    // Open for the recorded fit only.
+    // The recorded fit tries whole ticks: its position p is p ticks. A position past the rule's list is read as its last.
     pub fn from_recorded(position: usize) -> Delay
-        requires { ⌜ position ≤ entryCount ⌝ }
-        ensures { λ r. ⌜ r ≡ ofRecorded position ⌝ }
+        ensures { λ r. ⌜ r ≡ ofRecorded (min position entryCount) ⌝ }
     {
         Delay {
-            half_ticks: 2 * (position as u32),
+            half_ticks: 2 * listed(position),
         }
     }
 
     // The integrated fit tries half ticks from one tick on: its position p is p + 1 half ticks.
-    // Open for the integrated fit only.
     pub fn from_integrated(position: usize) -> Delay
-        requires { ⌜ position ≤ entryCount ⌝ }
-        ensures { λ r. ⌜ r ≡ ofIntegrated position ⌝ }
+        ensures { λ r. ⌜ r ≡ ofIntegrated (min position entryCount) ⌝ }
     {
         Delay {
-            half_ticks: (position as u32) + 1,
+            half_ticks: listed(position) + 1,
         }
     }
 

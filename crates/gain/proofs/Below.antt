@@ -6,6 +6,8 @@ use lib.Ieee.{Float, Format, binary32, binary64, add, sub, mul}
 use Rattle.float.specs.Values.{one32}
 use Rattle.float.specs.Series.{sumTo, dotTo}
 use Rattle.lags.specs.Lags.{lagTo}
+use Rattle.gain.specs.declared.Shared.{Shared}
+use Rattle.gain.specs.Prepared.{ticksOf, fittedWith}
 use Rattle.gain.specs.Gain.{blend, felt, leaky, through, solved, fitted}
 
 -- f and g agree on the first n places
@@ -44,3 +46,9 @@ unfolding fitted
 fitted-same m m' c c' t t' n p q r =
     λ i. solved (dot-same binary64 m m' m m' n p p i) (dot-same binary64 m m' c c' n p q i) (dot-same binary64 c c' c c' n q q i)
     (dot-same binary64 m m' t t' n p r i) (dot-same binary64 c c' t t' n q r i) (dot-same binary64 t t' t t' n r r i)
+
+pub with-same : (w : Shared) (m m' c t : ℕ → Float) → Agree m m' (ticksOf w) → fittedWith w m c t ≡ fittedWith w m' c t
+unfolding fittedWith
+with-same w m m' c t p =
+    λ i. solved (dot-same binary64 m m' m m' (ticksOf w) p p i) (dot-same binary64 m m' c c (ticksOf w) p (λ k q. refl) i) (w .cc)
+    (dot-same binary64 m m' t t (ticksOf w) p (λ k q. refl) i) (w .ct) (w .tt)

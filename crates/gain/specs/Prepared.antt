@@ -1,6 +1,6 @@
--- What the code keeps for the gain fits of a window: six series woven side by side, and the sums that no pole and no step is in.
+-- What the code keeps for the gain fits of a window: the two leaky series that no pole and no step is in, and their sums.
 -- Inner functions are stated by these; the fit itself is in Gain.antt.
-use Prim.Native.Nat.{ℕ, _+_, _-_, _/_, _%_}
+use Prim.Native.Nat.{ℕ, min}
 use mathlib.Core.Path.{_≡_}
 use mathlib.Core.List.{List}
 use lib.Ieee.{Float, binary64}
@@ -9,31 +9,29 @@ use Rattle.float.specs.Series.{at, dotTo, fill}
 use Rattle.gain.specs.declared.GainFit.{GainFit}
 use Rattle.gain.specs.declared.Shared.{Shared}
 use Rattle.gain.specs.declared.StepSums.{StepSums}
-use Rattle.gain.specs.Gain.{firstTick, wholeTicksOf, felt, regressor, change, through, fitted}
+use Rattle.gain.specs.Gain.{regressor, change, through, solved}
 
 -- a series as the entries of a fill
 abbrev pub series : (ℕ → Float) → ℕ → List Float → Float
 series f k l = f k
 
--- three poles at once, two lanes to a pole: its whole ticks, and then its half ticks
-abbrev pub laneCount : ℕ
-laneCount = 6
+-- the ticks from 11 on of a full window
+abbrev pub mostTicks : ℕ
+mostTicks = 2037
 
--- the series of the lanes side by side
-abbrev pub woven : (ℕ → ℕ → Float) → ℕ → List Float → Float
-woven f k l = f (k % laneCount) (k / laneCount)
+-- the ticks that are fitted, at most those of a full window
+abbrev pub ticksOf : Shared → ℕ
+ticksOf w = min (w .ticks) mostTicks
 
--- the moments felt in lane h
-abbrev pub laneSeries : List Float → (ℕ → Float) → ℕ → ℕ → Float
-laneSeries poles u h = felt (at poles (h / 2)) u (h % 2)
+-- the fit of a series m beside two leaky series c and t, with the sums of these as they are kept
+unfoldable pub fittedWith : Shared → (m c t : ℕ → Float) → GainFit
+fittedWith w m c t =
+    solved (dotTo binary64 m m (ticksOf w)) (dotTo binary64 m c (ticksOf w)) (w .cc)
+    (dotTo binary64 m t (ticksOf w)) (w .ct) (w .tt)
 
--- where the moments of step s begin: at the newer one of tick 11
-abbrev pub firstMoment : ℕ → ℕ
-firstMoment s = firstTick + 1 - wholeTicksOf s
-
--- the gain fit of step s at a pole, of the moments u and of the leaky series c and t
-abbrev pub fitAt : Float → (u c t : ℕ → Float) → ℕ → ℕ → Float → GainFit
-fitAt carry u c t n s pole = fitted (through carry (regressor s pole u)) c t n
+-- that of step s at a pole, of the moments u
+abbrev pub fitWith : Shared → (u c t : ℕ → Float) → ℕ → Float → GainFit
+fitWith w u c t s pole = fittedWith w (through (w .carry) (regressor s pole u)) c t
 
 -- the three sums that a step's series m is in, of the first n places
 pub record Summed (m c t : ℕ → Float) (n : ℕ) (r : StepSums) : Type 0 where
@@ -41,7 +39,7 @@ pub record Summed (m c t : ℕ → Float) (n : ℕ) (r : StepSums) : Type 0 wher
   pub constants : r .mc ≡ dotTo binary64 m c n
   pub targets : r .mt ≡ dotTo binary64 m t n
 
--- the three sums that it is not in
+-- the three sums that it is not in, as they are kept
 pub record Totals (c t : ℕ → Float) (w : Shared) : Type 0 where
   pub constants : w .cc ≡ dotTo binary64 c c (w .ticks)
   pub both : w .ct ≡ dotTo binary64 c t (w .ticks)

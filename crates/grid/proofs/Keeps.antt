@@ -1,4 +1,4 @@
--- The grid's rule over any series of candidates: the kept one has the least residual, and is the first that has it; none is kept only where no filter gave a fit.
+-- The grid's rule over any series of candidates: the kept one has the least residual, and is the first that has it; none is kept only where none has a fit.
 use Prim.Native.Nat.{ℕ, zero, suc, _<_}
 use mathlib.Core.Path.{_≡_, refl, sym, subst}
 use mathlib.Core.Bool.{Bool, true, false}
@@ -6,22 +6,17 @@ use mathlib.Core.Logic.{⊎-elim}
 use native.Mathlib.Nat.{eq-or-lt-of-le, le-of-suc-le-suc}
 use native.Mathlib.Omega.{arith}
 use lib.Ieee.{lt}
-use Rattle.grid.specs.declared.LagFit.{LagFit}
 use Rattle.grid.specs.declared.Kept.{Kept}
 use Rattle.grid.specs.declared.Kept.the-variants.{Best, Empty}
-use Rattle.grid.specs.Grid.{keepOf, keptTo, pickKept, First}
+use Rattle.grid.specs.Grid.{keepOf, keptTo, pickKept, KeepsFirst}
 use Rattle.grid.proofs.Order.{lt-self, not-below, not-at-most}
-
-abbrev Holds : (ℕ → Kept) → ℕ → Kept → Type 0
-Holds f n Empty = (i : ℕ) → i < n → f i ≡ Empty
-Holds f n (Best b) = First f n b
 
 module _ (f : ℕ → Kept) (n : ℕ) where
   -- what holds of each place below n, and of n, holds of each below the next
   more : {P : ℕ → Type 0} → ((i : ℕ) → i < n → P i) → P n → (i : ℕ) → i < suc n → P i
   more {P} h z i p = ⊎-elim (λ (q : i ≡ n). subst (λ (j : ℕ). P j) (sym q) z) (λ (q : i < n). h i q) (eq-or-lt-of-le (le-of-suc-le-suc p))
 
-  step : (k x : Kept) → Holds f n k → f n ≡ x → Holds f (suc n) (keepOf k x)
+  step : (k x : Kept) → KeepsFirst f n k → f n ≡ x → KeepsFirst f (suc n) (keepOf k x)
   unfolding keepOf
   step Empty Empty h e = more {P = λ i. f i ≡ Empty} h e
   step (Best a) Empty h e = record {
@@ -40,7 +35,7 @@ module _ (f : ℕ → Kept) (n : ℕ) where
   }
   step (Best a) (Best b) h e = go (lt (b .residual) (a .residual)) refl
     where
-      go : (t : Bool) → lt (b .residual) (a .residual) ≡ t → Holds f (suc n) (pickKept t (Best b) (Best a))
+      go : (t : Bool) → lt (b .residual) (a .residual) ≡ t → KeepsFirst f (suc n) (pickKept t (Best b) (Best a))
       go true g = record {
         place = n;
         inside = omega arith;
@@ -57,15 +52,7 @@ module _ (f : ℕ → Kept) (n : ℕ) where
         first = h .first;
       }
 
-holds : (f : ℕ → Kept) (n : ℕ) → Holds f n (keptTo f n)
+pub keeps-first : (f : ℕ → Kept) (n : ℕ) → KeepsFirst f n (keptTo f n)
 unfolding keptTo
-holds f zero = λ i p. absurd (omega arith)
-holds f (suc n) = step f n (keptTo f n) (f n) (holds f n) refl
-
--- the kept one has the least residual, and is the first that has it
-pub keeps : (f : ℕ → Kept) (n : ℕ) (b : LagFit) → keptTo f n ≡ Best b → First f n b
-keeps f n b e = rw e at (holds f n)
-
--- none is kept only where no filter gave a fit
-pub none-fits : (f : ℕ → Kept) (n : ℕ) → keptTo f n ≡ Empty → (i : ℕ) → i < n → f i ≡ Empty
-none-fits f n e = rw e at (holds f n)
+keeps-first f zero = λ i p. absurd (omega arith)
+keeps-first f (suc n) = step f n (keptTo f n) (f n) (keeps-first f n) refl

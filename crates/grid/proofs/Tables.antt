@@ -15,14 +15,16 @@ use Rattle.gain.specs.declared.GainFit.{GainFit}
 use Rattle.gain.specs.declared.GainFit.the-variants.{Nothing}
 use Rattle.gain.specs.declared.Shared.{Shared}
 use Rattle.gain.specs.Gain.{stepCount}
-use Rattle.gain.specs.Prepared.{laneCount, woven, laneSeries, fitAt}
+use Rattle.gain.specs.Prepared.{ticksOf, fitWith}
+use Rattle.lanes.specs.Lanes.{laneCount, woven, laneSeries}
 use Rattle.float.proofs.Fill.{length-fill, filled, unfilled}
 use Rattle.kernel.specs.Kernel.{placeCount, placeOf, placeFit}
 use Rattle.kernel.proofs.Places.{place-fit}
 use Rattle.grid.specs.declared.Kept.{Kept}
 use Rattle.grid.specs.declared.Kept.the-variants.{Empty}
-use Rattle.grid.specs.Grid.{candidate, keepOf, keptTo, lowEnd, pickEnd, highEnd}
-use Rattle.grid.specs.Steps.{keptBelow, against, tableOf}
+use Rattle.grid.specs.Grid.{candidate, keepOf, keptTo, lowEnd, pickEnd, highEnd, keptAt}
+use Rattle.grid.specs.Steps.{keptBelow, against, tableOf, KeptTable}
+use Rattle.grid.proofs.Keeps.{keeps-first}
 
 pub table-at : (kept : ℕ → Kept) (s : ℕ) → s < stepCount → getD (tableOf kept) s Empty ≡ kept s
 table-at kept s p = filled (λ s l. kept s) (replicate stepCount Empty) Empty stepCount s (rw length-replicate (omega arith)) p
@@ -30,8 +32,13 @@ table-at kept s p = filled (λ s l. kept s) (replicate stepCount Empty) Empty st
 table-long : (kept : ℕ → Kept) → length (tableOf kept) ≡ stepCount
 table-long kept = length-fill (λ s l. kept s) (replicate stepCount Empty) stepCount ∙ length-replicate stepCount Empty
 
+-- the table of the grid has what its rule says: each step keeps the first of the least residual
+pub table-first : (dt : Float) (fit : ℕ → Float → GainFit) (kept : List Kept) → kept ≡ tableOf (keptAt dt fit) → KeptTable dt fit kept
+unfolding keptAt
+table-first dt fit kept e = record { is = e; first = λ s p. rw (e, table-at (keptAt dt fit) s p) (keeps-first _ (suc lagCount)) }
+
 -- one more pole against a table is a table, step by step
-pub table-against : (pole low high : Float) (fits : List GainFit) (q : ℕ) (kept next : ℕ → Kept)
+table-against : (pole low high : Float) (fits : List GainFit) (q : ℕ) (kept next : ℕ → Kept)
     → ((s : ℕ) → s < stepCount → keepOf (kept s) (candidate pole low high (getD fits (placeOf q s) Nothing)) ≡ next s)
     → fill (against pole low high fits q) (tableOf kept) stepCount ≡ tableOf next
 table-against pole low high fits q kept next e =
@@ -44,46 +51,55 @@ table-against pole low high fits q kept next e =
     ∙ e s h ∙ sym (table-at next s h))
 
 -- the pole above, by its place
-pub above : (pole : ℕ → Float) (last i : ℕ) → i ≤ last → highEnd pole last i ≡ pole (min (i + 1) last)
+above : (pole : ℕ → Float) (last i : ℕ) → i ≤ last → highEnd pole last i ≡ pole (min (i + 1) last)
 above pole last i h = go (ltb i last) refl
   where
     go : (b : Bool) → ltb i last ≡ b → pickEnd b (pole (i + 1)) (pole i) ≡ pole (min (i + 1) last)
     go true e = let z : i + 1 ≡ min (i + 1) last = omega (arith, ltb-true i last e) in ap pole z
     go false e = let z : i ≡ min (i + 1) last = omega (arith, ltb-false i last e) in ap pole z
 
--- the pole above one that is not the last
-pub up : (dt : Float) (j k : ℕ) → j < lagCount → k ≡ j + 1 → highEnd (poleOf dt) lagCount j ≡ poleOf dt k
-up dt j k h p = let e : min (j + 1) lagCount ≡ k = omega arith in above (poleOf dt) lagCount j (omega arith) ∙ ap (poleOf dt) e
+-- a pole by its place, read as at most the last
+abbrev pub upTo : Float → ℕ → Float
+upTo dt i = poleOf dt (min i lagCount)
+
+at-place : (dt p : Float) (i k : ℕ) → i ≤ lagCount → k ≡ i → p ≡ upTo dt k → p ≡ poleOf dt i
+at-place dt p i k h e q = let z : min k lagCount ≡ i = omega arith in q ∙ ap (poleOf dt) z
+
+-- the pole above pole i, where p is that of the next place
+is-above : (dt p : Float) (i k : ℕ) → i ≤ lagCount → k ≡ i + 1 → p ≡ upTo dt k → p ≡ highEnd (poleOf dt) lagCount i
+is-above dt p i k h e q = q ∙ ap (upTo dt) e ∙ sym (above (poleOf dt) lagCount i h)
 
 -- what pole i leaves of the table, which is pole q of the three whose regressors are woven in xs
-pub pole-more : (dt : Float) (u : ℕ → Float) (cs ts l xs poles : List Float) (w : Shared) (i q : ℕ) (fits : List GainFit) (low high : Float) (kept : List Kept)
-    → length l ≡ 12288 → w .ticks ≤ 2037 → q < 3 → at poles q ≡ poleOf dt i → low ≡ lowEnd (poleOf dt) i → high ≡ highEnd (poleOf dt) lagCount i
-    → xs ≡ fill (woven (laneSeries poles u)) l ((w .ticks + 11) * laneCount) → fits ≡ fill (placeFit xs cs ts w) (replicate placeCount Nothing) placeCount
-    → kept ≡ tableOf (keptBelow dt (fitAt (w .carry) u (at cs) (at ts) (w .ticks)) i)
-    → fill (against (at poles q) low high fits q) kept stepCount ≡ tableOf (keptBelow dt (fitAt (w .carry) u (at cs) (at ts) (w .ticks)) (suc i))
+pole-more : (dt : Float) (u : ℕ → Float) (cs ts l xs poles : List Float) (w : Shared) (i q : ℕ) (fits : List GainFit) (low high : Float) (kept : List Kept)
+    → length l ≡ 12288 → q < 3 → at poles q ≡ poleOf dt i → low ≡ lowEnd (poleOf dt) i → high ≡ highEnd (poleOf dt) lagCount i
+    → xs ≡ fill (woven (laneSeries poles u)) l ((ticksOf w + 11) * laneCount) → fits ≡ fill (placeFit xs cs ts w) (replicate placeCount Nothing) placeCount
+    → kept ≡ tableOf (keptBelow dt (fitWith w u (at cs) (at ts)) i)
+    → fill (against (at poles q) low high fits q) kept stepCount ≡ tableOf (keptBelow dt (fitWith w u (at cs) (at ts)) (suc i))
 unfolding keptTo
-pole-more dt u cs ts l xs poles w i q fits low high kept long h z p a b x f k =
+pole-more dt u cs ts l xs poles w i q fits low high kept long z p a b x f k =
     rw k (table-against (at poles q) low high fits q _ _ (λ s y.
-    let g : getD fits (placeOf q s) Nothing ≡ fitAt (w .carry) u (at cs) (at ts) (w .ticks) s (at poles q) =
+    let g : getD fits (placeOf q s) Nothing ≡ fitWith w u (at cs) (at ts) s (at poles q) =
     ap (λ (v : List GainFit). getD v (placeOf q s) Nothing) f
     ∙ filled (placeFit xs cs ts w) (replicate placeCount Nothing) Nothing placeCount (placeOf q s) (rw length-replicate (omega arith)) (omega arith)
-    ∙ place-fit u cs ts poles l xs w q s long h z y x in
+    ∙ place-fit u cs ts poles l xs w q s long z y x in
     rw (g, p, a, b) refl))
 
 -- what three poles leave of it, from pole 3·i on
 pub three-more : (dt : Float) (u : ℕ → Float) (cs ts l xs : List Float) (w : Shared) (i : ℕ) (fits : List GainFit) (p₀ p₁ p₂ low high : Float) (kept : List Kept)
-    → length l ≡ 12288 → w .ticks ≤ 2037 → i < 43 → p₀ ≡ poleOf dt (i * 3) → p₁ ≡ poleOf dt (i * 3 + 1) → p₂ ≡ poleOf dt (i * 3 + 2)
-    → low ≡ lowEnd (poleOf dt) (i * 3) → high ≡ highEnd (poleOf dt) lagCount (i * 3 + 2)
-    → xs ≡ fill (woven (laneSeries (p₀ ∷ p₁ ∷ p₂ ∷ []) u)) l ((w .ticks + 11) * laneCount) → fits ≡ fill (placeFit xs cs ts w) (replicate placeCount Nothing) placeCount
-    → kept ≡ tableOf (keptBelow dt (fitAt (w .carry) u (at cs) (at ts) (w .ticks)) (i * 3))
+    → length l ≡ 12288 → i < 43 → p₀ ≡ upTo dt (i * 3) → p₁ ≡ upTo dt (i * 3 + 1) → p₂ ≡ upTo dt (i * 3 + 2) → low ≡ lowEnd (poleOf dt) (i * 3) → high ≡ upTo dt (i * 3 + 3)
+    → xs ≡ fill (woven (laneSeries (p₀ ∷ p₁ ∷ p₂ ∷ []) u)) l ((ticksOf w + 11) * laneCount) → fits ≡ fill (placeFit xs cs ts w) (replicate placeCount Nothing) placeCount
+    → kept ≡ tableOf (keptBelow dt (fitWith w u (at cs) (at ts)) (i * 3))
     → fill (against p₂ p₁ high fits 2) (fill (against p₁ p₀ p₂ fits 1) (fill (against p₀ low p₁ fits 0) kept stepCount) stepCount) stepCount
-    ≡ tableOf (keptBelow dt (fitAt (w .carry) u (at cs) (at ts) (w .ticks)) ((i + 1) * 3))
+    ≡ tableOf (keptBelow dt (fitWith w u (at cs) (at ts)) ((i + 1) * 3))
 unfolding lowEnd
-three-more dt u cs ts l xs w i fits p₀ p₁ p₂ low high kept long h z e₀ e₁ e₂ a b x f k =
+three-more dt u cs ts l xs w i fits p₀ p₁ p₂ low high kept long z e₀ e₁ e₂ a b x f k =
     let poles = p₀ ∷ p₁ ∷ p₂ ∷ [] in
-    let s₁ : i * 3 + 1 ≡ suc (i * 3) = omega arith in
-    let s₂ : i * 3 + 2 ≡ suc (suc (i * 3)) = omega arith in
-    let s₃ : (i + 1) * 3 ≡ suc (suc (suc (i * 3))) = omega arith in
-    let one = pole-more dt u cs ts l xs poles w (i * 3) 0 fits low p₁ kept long h (omega arith) e₀ a (e₁ ∙ sym (up dt (i * 3) (i * 3 + 1) (omega arith) (omega arith))) x f k in
-    let two = pole-more dt u cs ts l xs poles w (suc (i * 3)) 1 fits p₀ p₂ _ long h (omega arith) (rw s₁ at e₁) e₀ (e₂ ∙ sym (up dt (suc (i * 3)) (i * 3 + 2) (omega arith) (omega arith))) x f one in
-    rw s₃ (pole-more dt u cs ts l xs poles w (suc (suc (i * 3))) 2 fits p₁ high _ long h (omega arith) (rw s₂ at e₂) (rw s₁ at e₁) (rw s₂ at b) x f two)
+    let j = i * 3 in
+    let s₃ : (i + 1) * 3 ≡ suc (suc (suc j)) = omega arith in
+    let one = pole-more dt u cs ts l xs poles w j 0 fits low p₁ kept long (omega arith)
+    (at-place dt p₀ j j (omega arith) refl e₀) a (is-above dt p₁ j (j + 1) (omega arith) refl e₁) x f k in
+    let two = pole-more dt u cs ts l xs poles w (suc j) 1 fits p₀ p₂ _ long (omega arith)
+    (at-place dt p₁ (suc j) (j + 1) (omega arith) (omega arith) e₁) (at-place dt p₀ j j (omega arith) refl e₀) (is-above dt p₂ (suc j) (j + 2) (omega arith) (omega arith) e₂) x f one in
+    rw s₃ (pole-more dt u cs ts l xs poles w (suc (suc j)) 2 fits p₁ high _ long (omega arith)
+    (at-place dt p₂ (suc (suc j)) (j + 2) (omega arith) (omega arith) e₂) (at-place dt p₁ (suc j) (j + 1) (omega arith) (omega arith) e₁)
+    (is-above dt high (suc (suc j)) (j + 3) (omega arith) (omega arith) b) x f two)

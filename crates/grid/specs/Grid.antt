@@ -59,3 +59,8 @@ pub record First (f : ℕ → Kept) (n : ℕ) (b : LagFit) : Type 0 where
   pub is : f place ≡ Best b
   pub least : (i : ℕ) (a : LagFit) → i < n → f i ≡ Best a → lt (a .residual) (b .residual) ≡ false
   pub first : (i : ℕ) (a : LagFit) → i < place → f i ≡ Best a → le (a .residual) (b .residual) ≡ false
+
+-- "the first fit is kept until a strictly smaller residual replaces it", of what is kept of the first n candidates: that one, or none where none has a fit
+abbrev pub KeepsFirst : (ℕ → Kept) → ℕ → Kept → Type 0
+KeepsFirst f n Empty = (i : ℕ) → i < n → f i ≡ Empty
+KeepsFirst f n (Best b) = First f n b

@@ -2,11 +2,10 @@
 ghost use mathlib.Core.Path.{_≡_};
 ghost use Prim.Native.Nat.{_≤_};
 ghost use Rattle.float.specs.Series.{at, fill};
-ghost use Rattle.lags.specs.Lags.{lagCount, poleOf};
 ghost use Rattle.gain.specs.Gain.{stepCount};
-ghost use Rattle.gain.specs.Prepared.{fitAt, Totals};
-ghost use Rattle.grid.specs.Grid.{candidate, keepOf, highEnd, keptAt};
-ghost use Rattle.grid.specs.Steps.{against, tableOf};
+ghost use Rattle.gain.specs.Prepared.{fitWith};
+ghost use Rattle.grid.specs.Grid.{candidate, keepOf};
+ghost use Rattle.grid.specs.Steps.{against, KeptTable};
 use gain::GainFit;
 use gain::Shared;
 
@@ -70,19 +69,7 @@ fn keep_each(
     next
 }
 
-// The pole above pole i, or pole i itself where it is the last. Asked of one of the 129 poles only.
-fn next_pole(dt_s: f32, i: usize, pole: f32) -> f32
-    requires { ⌜ (i ≤ lagCount) × (pole ≡ poleOf «dt_s» i) ⌝ }
-    ensures { λ r. ⌜ r ≡ highEnd (poleOf «dt_s») lagCount i ⌝ }
-{
-    if i < 128 {
-        return lags::pole(dt_s, i + 1);
-    }
-    pole
-}
-
-// What each step keeps of all poles, three of them at a time, from a window's moments, its leaky series and their sums.
-// Open for the integrated fit only.
+// What each step keeps of all poles, three of them at a time, from a window's moments, its leaky series and their sums. The pole above the last is the last.
 pub fn keep_poles(
     moments: &[f32; 2048],
     cs: &[f64; 2048],
@@ -90,19 +77,18 @@ pub fn keep_poles(
     w: Shared,
     dt_s: f32,
 ) -> [Kept; 20]
-    requires { ⌜ (w .ticks ≤ 2037) × Totals (at (now cs)) (at (now ts)) w ⌝ }
-    ensures { λ r. ⌜ r ≡ tableOf (keptAt «dt_s» (fitAt (w .carry) (at (now (moments .entry))) (at (now (cs .entry))) (at (now (ts .entry))) (w .ticks))) ⌝ }
+    ensures { λ r. ⌜ KeptTable «dt_s» (fitWith w (at (now (moments .entry))) (at (now (cs .entry))) (at (now (ts .entry)))) r ⌝ }
 {
-    let len = w.ticks + 11;
+    let len = w.fitted() + 11;
     let mut kept = [Kept::Empty; 20];
     let mut xs = [0.0f64; 12288];
     let mut low = 0.0f32;
     let mut pole = 0.0f32;
     for i in 0..43usize {
-        let second = next_pole(dt_s, i * 3, pole);
-        let third = next_pole(dt_s, i * 3 + 1, second);
-        let high = next_pole(dt_s, i * 3 + 2, third);
-        gain::lag_through(moments, [pole, second, third], len, &mut xs);
+        let second = lags::pole(dt_s, i * 3 + 1);
+        let third = lags::pole(dt_s, i * 3 + 2);
+        let high = lags::pole(dt_s, i * 3 + 3);
+        lanes::lag_through(moments, [pole, second, third], len, &mut xs);
         let fits = kernel::fit_steps(&xs, cs, ts, w);
         let one = keep_each(kept, pole, low, second, fits, 0);
         let two = keep_each(one, second, pole, third, fits, 1);

@@ -1,5 +1,5 @@
 -- From a table of what the steps keep to the definition's answer, by the position that wins.
-use Prim.Native.Nat.{ℕ, _-_, _≤_}
+use Prim.Native.Nat.{ℕ, _-_, _≤_, min}
 use mathlib.Core.Path.{_≡_, refl, ap, _∙_}
 use mathlib.Core.List.{List}
 use native.Mathlib.Omega.{arith}
@@ -16,7 +16,7 @@ use Rattle.lags.specs.Lags.{carryOf}
 use Rattle.gain.specs.declared.GainFit.{GainFit}
 use Rattle.gain.specs.declared.Shared.{Shared}
 use Rattle.gain.specs.Gain.{firstTick, stepCount, gainFit}
-use Rattle.gain.specs.Prepared.{fitAt, Prepared}
+use Rattle.gain.specs.Prepared.{fitWith, Prepared}
 use Rattle.float.proofs.Fill.{fill-same}
 use Rattle.gain.proofs.Window.{window-fit}
 use Rattle.grid.specs.declared.Kept.{Kept}
@@ -32,12 +32,13 @@ unfolding entries
 entries-of kept = fill-same _ _ (replicate entryCount Missing) stepCount (λ s l p. ap entryOf (table-at kept s p))
 
 -- with the leaky series prepared, the fit at each step and pole is the window's
-pub window-is : (rates moments : List Float) (dt carry : Float) (n : ℕ) (cs₀ ts₀ cs ts : List Float) (w : Shared) → n - firstTick ≤ length cs₀ → n - firstTick ≤ length ts₀
-    → carry ≡ carryOf dt → Prepared carry (at rates) (n - firstTick) cs₀ ts₀ cs ts w → fitAt (w .carry) (at moments) (at cs) (at ts) (w .ticks) ≡ windowFit rates moments dt n
+pub window-is : (rates moments : List Float) (dt carry : Float) (n : ℕ) (cs₀ ts₀ cs ts : List Float) (w : Shared) → n ≤ 2048 → n - firstTick ≤ length cs₀ → n - firstTick ≤ length ts₀
+    → carry ≡ carryOf dt → Prepared carry (at rates) (min n 2048 - firstTick) cs₀ ts₀ cs ts w → fitWith w (at moments) (at cs) (at ts) ≡ windowFit rates moments dt n
 unfolding windowFit
-window-is rates moments dt carry n cs₀ ts₀ cs ts w hc ht e p =
+window-is rates moments dt carry n cs₀ ts₀ cs ts w h hc ht e p =
+    let m : min n 2048 ≡ n = omega arith in
     λ j. λ s pole.
-    (window-fit carry (at moments) (at rates) (n - firstTick) cs₀ ts₀ cs ts w hc ht p s pole ∙ ap (λ (z : Float). gainFit z (at moments) (at rates) (n - firstTick) s pole) e) j
+    (window-fit carry (at moments) (at rates) (n - firstTick) cs₀ ts₀ cs ts w (omega arith) hc ht (rw m at p) s pole ∙ ap (λ (z : Float). gainFit z (at moments) (at rates) (n - firstTick) s pole) e) j
 
 module _ (dt : Float) (fit : ℕ → Float → GainFit) (kept : List Kept) (list : List Entry) (k : kept ≡ tableOf (keptAt dt fit))
     (l : list ≡ fill (λ s e. entryOf (getD kept s Empty)) (replicate entryCount Missing) stepCount) where

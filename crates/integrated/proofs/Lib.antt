@@ -1,3 +1,2 @@
-pub mod Rounds
 pub mod Choice
 pub mod Prefix

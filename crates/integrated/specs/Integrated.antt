@@ -18,13 +18,13 @@ use Rattle.gain.specs.declared.GainFit.{GainFit}
 use Rattle.grid.specs.declared.LagFit.{LagFit}
 use Rattle.grid.specs.declared.Kept.{Kept}
 use Rattle.grid.specs.declared.Kept.the-variants.{Empty, Best}
-use Rattle.integrated.specs.declared.Refined.{Refined}
+use Rattle.golden.specs.declared.Refined.{Refined}
 use Rattle.integrated.specs.declared.Fitted.the-variants.{Nothing, Model}
 use Rattle.integrated.specs.declared.IntegratedFit.{IntegratedFit}
 use Rattle.lags.specs.Lags.{lagCount, carryOf}
 use Rattle.gain.specs.Gain.{firstTick, stepCount, isHalf, gainFit}
 use Rattle.grid.specs.Grid.{keptAt}
-use Rattle.integrated.specs.Golden.{refined}
+use Rattle.golden.specs.Golden.{refined}
 
 -- "The tie rule with gain as effect"
 unfoldable pub entryOf : Kept → Entry

@@ -6,25 +6,17 @@ ghost use Rattle.float.specs.Series.{at, fill};
 ghost use Rattle.delay.specs.declared.Entry.the-variants as entry;
 ghost use Rattle.delay.specs.Tie.{entryCount};
 ghost use Rattle.gain.specs.Gain.{firstTick, stepCount, isHalf};
-ghost use Rattle.gain.specs.Prepared.{fitAt, Totals};
-ghost use Rattle.integrated.specs.Golden.{betterOf, maxRounds, refined};
+ghost use Rattle.gain.specs.Prepared.{fitWith};
+ghost use Rattle.golden.specs.Golden.{maxRounds};
 ghost use Rattle.integrated.specs.Integrated.{entryOf, newerShare, olderShare, modelOf, modelled as modelledOf, noModel, chosenFrom, searched, windowFit, fitIntegrated};
-ghost use Rattle.grid.specs.Steps.{tableOf};
-ghost use Rattle.grid.specs.Grid.{keptAt};
 use delay::Delay;
 use delay::Entry;
 use delay::Position;
 use delay::RateModel;
-use gain::GainFit;
 use gain::Shared;
+use golden::Refined;
 use grid::Kept;
 use grid::LagFit;
-
-// What the refinement yields: the best candidate and the rounds made.
-pub struct Refined {
-    pub best: LagFit,
-    pub rounds: u32,
-}
 
 pub enum Fitted {
     Nothing,
@@ -35,75 +27,6 @@ pub enum Fitted {
 pub struct IntegratedFit {
     pub fitted: Fitted,
     pub gain_fits: u32,
-}
-
-// ---- the refinement
-
-fn better(best: LagFit, kept: LagFit) -> LagFit
-    ensures { λ r. ⌜ r ≡ betterOf best kept ⌝ }
-{
-    if kept.residual < best.residual {
-        kept
-    } else {
-        best
-    }
-}
-
-// A golden-section search between the ends of a candidate, at one step.
-fn refine(
-    moments: &[f32; 2048],
-    cs: &[f64; 2048],
-    ts: &[f64; 2048],
-    w: Shared,
-    step: usize,
-    grid_fit: LagFit,
-) -> Refined
-    requires { ⌜ (w .ticks ≤ 2037) × Totals (at (now cs)) (at (now ts)) w ⌝ }
-    ensures { λ r. ⌜ (r ≡ refined (fitAt (w .carry) (at (now (moments .entry))) (at (now (cs .entry))) (at (now (ts .entry))) (w .ticks) step) «grid_fit») × (r .rounds ≤ maxRounds) ⌝ }
-{
-    let mut low = grid_fit.low;
-    let mut high = grid_fit.high;
-    let mut best = grid_fit;
-    let mut rounds: u32 = 0;
-    while rounds < 12 {
-        let left = high - 0.618034 * (high - low);
-        let right = low + 0.618034 * (high - low);
-        let left_fit = gain::fit_at(moments, cs, ts, w, step, left);
-        let right_fit = gain::fit_at(moments, cs, ts, w, step, right);
-        rounds += 1;
-        let GainFit::Fit(left_gain, left_residual) = left_fit else {
-            break;
-        };
-        let GainFit::Fit(right_gain, right_residual) = right_fit else {
-            break;
-        };
-        if left_residual < right_residual {
-            best = better(
-                best,
-                LagFit {
-                    pole: left,
-                    low: low,
-                    high: high,
-                    gain: left_gain,
-                    residual: left_residual,
-                },
-            );
-            high = right;
-        } else {
-            best = better(
-                best,
-                LagFit {
-                    pole: right,
-                    low: low,
-                    high: high,
-                    gain: right_gain,
-                    residual: right_residual,
-                },
-            );
-            low = left;
-        }
-    }
-    Refined { best, rounds }
 }
 
 // ---- the model
@@ -193,15 +116,15 @@ fn choose(
     kept: [Kept; 20],
     position: usize,
 ) -> IntegratedFit
-    requires { ⌜ (w .ticks ≤ 2037) × (1 ≤ position) × (position ≤ entryCount) × Totals (at (now cs)) (at (now ts)) w ⌝ }
-    ensures { λ r. ⌜ r ≡ chosenFrom (getD kept (position - 1) Kept.Empty) (fitAt (w .carry) (at (now (moments .entry))) (at (now (cs .entry))) (at (now (ts .entry))) (w .ticks) (position - 1)) position «dt_s» ⌝ }
+    requires { ⌜ (1 ≤ position) × (position ≤ entryCount) ⌝ }
+    ensures { λ r. ⌜ r ≡ chosenFrom (getD kept (position - 1) Kept.Empty) (fitWith w (at (now (moments .entry))) (at (now (cs .entry))) (at (now (ts .entry))) (position - 1)) position «dt_s» ⌝ }
 {
     let step = position - 1;
     let k = kept[step];
     let Kept::Best(b) = k else {
         return no_model(2580);
     };
-    modelled(refine(moments, cs, ts, w, step, b), position, dt_s)
+    modelled(golden::refine(moments, cs, ts, w, step, b), position, dt_s)
 }
 
 // The grid, the tie rule and the refinement, from a window's moments, its leaky series and their sums.
@@ -212,8 +135,7 @@ fn search(
     w: Shared,
     dt_s: f32,
 ) -> IntegratedFit
-    requires { ⌜ (w .ticks ≤ 2037) × Totals (at (now cs)) (at (now ts)) w ⌝ }
-    ensures { λ r. ⌜ r ≡ searched «dt_s» (fitAt (w .carry) (at (now (moments .entry))) (at (now (cs .entry))) (at (now (ts .entry))) (w .ticks)) ⌝ }
+    ensures { λ r. ⌜ r ≡ searched «dt_s» (fitWith w (at (now (moments .entry))) (at (now (cs .entry))) (at (now (ts .entry)))) ⌝ }
 {
     let kept = grid::keep_poles(moments, cs, ts, w, dt_s);
     let position = delay::delay_to_fit(entries(kept), 0.0);
@@ -231,28 +153,8 @@ fn fit_long(rates: &[f32; 2048], moments: &[f32; 2048], n: usize, dt_s: f32) -> 
     let carry = std::num::f32_to_f64_with_nan(lags::carry(dt_s));
     let mut cs = [0.0f64; 2048];
     let mut ts = [0.0f64; 2048];
-    let w = gain::prepare(rates, carry, n - 11, &mut cs, &mut ts);
+    let w = gain::prepare(rates, carry, n, &mut cs, &mut ts);
     search(moments, &cs, &ts, w, dt_s)
-}
-
-// What each step keeps of a window of n ticks, more than 11 of them: the grid by itself, for whoever replays one.
-// Open for the program that replays grids only.
-pub fn keep_window(rates: &[f32; 2048], moments: &[f32; 2048], n: usize, dt_s: f32) -> [Kept; 20]
-    requires { ⌜ (firstTick ≤ n) × (n ≤ 2048) ⌝ }
-    ensures { λ r. ⌜ r ≡ tableOf (keptAt «dt_s» (windowFit (now (rates .entry)) (now (moments .entry)) «dt_s» n)) ⌝ }
-{
-    let carry = std::num::f32_to_f64_with_nan(lags::carry(dt_s));
-    let mut cs = [0.0f64; 2048];
-    let mut ts = [0.0f64; 2048];
-    let w = gain::prepare(rates, carry, n - 11, &mut cs, &mut ts);
-    grid::keep_poles(moments, &cs, &ts, w, dt_s)
-}
-
-// The stored count, at most the 2,048 that a window holds.
-fn stored(len: usize) -> usize
-    ensures { λ r. ⌜ r ≡ min len 2048 ⌝ }
-{
-    if len < 2048 { len } else { 2048 }
 }
 
 // An array is as long as its type says. The proofs learn it where the array is passed by value.
@@ -270,7 +172,7 @@ pub fn fit_integrated(
     ensures { λ r. ⌜ r ≡ fitIntegrated (take (min len 2048) (now (rates .entry))) (take (min len 2048) (now (moments .entry))) «duration_s» ⌝ }
 {
     is_whole(*rates);
-    let n = stored(len);
+    let n = gain::stored(len);
     if n <= 12 {
         return no_model(0);
     }

@@ -54,7 +54,7 @@ fn gain_agrees(s: &[u8]) -> bool {
     let mut lagged = [0.0f32; 2048];
     load(s, 16, n, &mut rates);
     load(s, 20, n, &mut lagged);
-    let fit = gain::fit_gain(
+    let fit = trial::fit_gain(
         &rates,
         &lagged,
         n,
@@ -96,7 +96,12 @@ fn grid_agrees(s: &[u8]) -> bool {
     let mut moments = [0.0f32; 2048];
     load(s, 8, n, &mut rates);
     load(s, 12, n, &mut moments);
-    let kept = integrated::keep_window(&rates, &moments, n, float_at(s, 4));
+    let dt_s = float_at(s, 4);
+    let carry = std::num::f32_to_f64_with_nan(lags::carry(dt_s));
+    let mut cs = [0.0f64; 2048];
+    let mut ts = [0.0f64; 2048];
+    let w = gain::prepare(&rates, carry, n, &mut cs, &mut ts);
+    let kept = grid::keep_poles(&moments, &cs, &ts, w, dt_s);
     let end = 8 + n * 8;
     for step in 0..20usize {
         let k = kept[step];

@@ -12,7 +12,7 @@ use lib.Ieee.{Float, nan, binary64, add, mul}
 use Rattle.float.specs.Values.{zero64}
 use Rattle.float.specs.Series.{at}
 use Rattle.gain.proofs.Accumulators.{Running, start, next}
-use Rattle.gain.specs.Prepared.{laneCount}
+use Rattle.lanes.specs.Lanes.{laneCount}
 use Rattle.kernel.specs.Kernel.{sumsAt}
 
 module _ (carry : Float) (x : ℕ → ℕ → Float) (c t : ℕ → Float) where

@@ -1,5 +1,5 @@
 -- The sums of all places, filled in one place after another; once all are there, each place has the sums of its series, and they solve to its fit.
-use Prim.Native.Nat.{ℕ, _+_, _-_, _*_, _/_, _%_, _≤_, _<_}
+use Prim.Native.Nat.{ℕ, _+_, _-_, _*_, _/_, _%_, _<_}
 use mathlib.Core.Path.{_≡_, refl}
 use mathlib.Core.List.{List}
 use native.Mathlib.Numerals.{add-one}
@@ -10,10 +10,11 @@ use Rattle.float.specs.Values.{zero64}
 use Rattle.float.specs.Series.{at, dotTo, fill}
 use Rattle.gain.specs.declared.Shared.{Shared}
 use Rattle.gain.specs.declared.StepSums.{StepSums}
-use Rattle.gain.specs.Gain.{firstTick, stepCount, through, fitted}
-use Rattle.gain.specs.Prepared.{laneCount, woven, laneSeries, fitAt, Summed}
+use Rattle.gain.specs.Gain.{firstTick, stepCount, through}
+use Rattle.gain.specs.Prepared.{ticksOf, fittedWith, fitWith, Summed}
+use Rattle.lanes.specs.Lanes.{laneCount, woven, laneSeries}
 use Rattle.float.proofs.Fill.{filled, fill-more}
-use Rattle.gain.proofs.Window.{lane-fit}
+use Rattle.lanes.proofs.Fit.{lane-fit}
 use Rattle.kernel.specs.Kernel.{placeCount, sumsAt, placeOf, placeSeries}
 
 -- lane h of whole tick d + 1 is place 6·d + h
@@ -55,9 +56,9 @@ module _ (m : ℕ → ℕ → Float) (c t : ℕ → Float) (n : ℕ) where
   }
 
 -- with the regressors of three poles woven in xs, the fit of a place is that of its step at its pole
-pub place-fit : (u : ℕ → Float) (cs ts poles l xs : List Float) (w : Shared) (q s : ℕ) → length l ≡ 12288 → w .ticks ≤ 2037 → q < 3 → s < stepCount
-    → xs ≡ fill (woven (laneSeries poles u)) l ((w .ticks + 11) * laneCount) → fitted (through (w .carry) (placeSeries xs (placeOf q s))) (at cs) (at ts) (w .ticks) ≡ fitAt (w .carry) u (at cs) (at ts) (w .ticks) s (at poles q)
-place-fit u cs ts poles l xs w q s long h p o x =
+pub place-fit : (u : ℕ → Float) (cs ts poles l xs : List Float) (w : Shared) (q s : ℕ) → length l ≡ 12288 → q < 3 → s < stepCount
+    → xs ≡ fill (woven (laneSeries poles u)) l ((ticksOf w + 11) * laneCount) → fittedWith w (through (w .carry) (placeSeries xs (placeOf q s))) (at cs) (at ts) ≡ fitWith w u (at cs) (at ts) s (at poles q)
+place-fit u cs ts poles l xs w q s long p o x =
     let is : placeSeries xs (placeOf q s) ≡ (λ (i : ℕ). at xs ((firstTick - s / 2) * laneCount + (q * 2 + s % 2) + i * laneCount)) =
     λ j. λ i. let e : (firstTick - placeOf q s / laneCount) * laneCount + placeOf q s % laneCount + i * laneCount ≡ (firstTick - s / 2) * laneCount + (q * 2 + s % 2) + i * laneCount = omega arith in at xs (e j) in
-    rw is (lane-fit u (at cs) (at ts) (w .carry) poles l xs (w .ticks) q s long h p o x)
+    rw is (lane-fit u (at cs) (at ts) w poles l xs q s long p o x)

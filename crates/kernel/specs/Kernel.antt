@@ -6,8 +6,9 @@ use Rattle.float.specs.Series.{at}
 use Rattle.gain.specs.declared.GainFit.{GainFit}
 use Rattle.gain.specs.declared.Shared.{Shared}
 use Rattle.gain.specs.declared.StepSums.{StepSums}
-use Rattle.gain.specs.Gain.{firstTick, through, solved, fitted}
-use Rattle.gain.specs.Prepared.{laneCount}
+use Rattle.gain.specs.Gain.{firstTick, through, solved}
+use Rattle.gain.specs.Prepared.{fittedWith}
+use Rattle.lanes.specs.Lanes.{laneCount}
 use Rattle.kernel.specs.declared.LaneSums.{LaneSums}
 use Rattle.kernel.specs.declared.PlaceSums.{PlaceSums}
 
@@ -37,6 +38,6 @@ placeSeries xs p i = at xs ((firstTick - p / laneCount) * laneCount + p % laneCo
 abbrev pub solvedPlace : PlaceSums → Shared → ℕ → GainFit
 solvedPlace r w p = solved (at (r .mm) p) (at (r .mc) p) (w .cc) (at (r .mt) p) (w .ct) (w .tt)
 
--- the fit of a place from the regressors woven in xs and the two leaky series, as an entry of a list
+-- the fit of a place from the regressors woven in xs and the two leaky series with their sums, as an entry of a list
 abbrev pub placeFit : (xs cs ts : List Float) → Shared → ℕ → List GainFit → GainFit
-placeFit xs cs ts w p l = fitted (through (w .carry) (placeSeries xs p)) (at cs) (at ts) (w .ticks)
+placeFit xs cs ts w p l = fittedWith w (through (w .carry) (placeSeries xs p)) (at cs) (at ts)

@@ -4,7 +4,8 @@ ghost use Prim.Native.Nat.{ℕ, _+_, _*_, _≤_, _<_};
 ghost use lib.ListN.{replicate};
 ghost use Rattle.float.specs.Series.{at, fill};
 ghost use Rattle.gain.specs.Gain.{through};
-ghost use Rattle.gain.specs.Prepared.{laneCount, Summed, Totals};
+ghost use Rattle.gain.specs.Prepared.{Summed};
+ghost use Rattle.lanes.specs.Lanes.{laneCount};
 ghost use Rattle.kernel.specs.Kernel.{placeCount, lane, placeSums, placeSeries, solvedPlace, placeFit};
 use gain::GainFit;
 use gain::Shared;
@@ -55,15 +56,21 @@ fn sum_lanes(
 }
 
 // The sums of all steps, from the woven regressors of three poles. They go into arrays before they are solved, so that the compiler packs two lanes in a register.
-fn sum_places(xs: &[f64; 12288], cs: &[f64; 2048], ts: &[f64; 2048], w: Shared) -> PlaceSums
-    requires { ⌜ w .ticks ≤ 2037 ⌝ }
-    ensures { λ r. ⌜ ((p : ℕ) → p < placeCount → Summed (through (w .carry) (placeSeries (now (xs .entry)) p)) (at (now (cs .entry))) (at (now (ts .entry))) (w .ticks) (placeSums r p)) ⌝ }
+fn sum_places(
+    xs: &[f64; 12288],
+    cs: &[f64; 2048],
+    ts: &[f64; 2048],
+    carry: f64,
+    n: usize,
+) -> PlaceSums
+    requires { ⌜ n ≤ 2037 ⌝ }
+    ensures { λ r. ⌜ ((p : ℕ) → p < placeCount → Summed (through carry (placeSeries (now (xs .entry)) p)) (at (now (cs .entry))) (at (now (ts .entry))) n (placeSums r p)) ⌝ }
 {
     let mut mm = [0.0f64; 60];
     let mut mc = [0.0f64; 60];
     let mut mt = [0.0f64; 60];
     for d in 0..10usize {
-        let sums = sum_lanes(xs, cs, ts, w.carry, (11 - d) * 6, w.ticks);
+        let sums = sum_lanes(xs, cs, ts, carry, (11 - d) * 6, n);
         for h in 0..6usize {
             let place = d * 6 + h;
             mm[place] = sums.mm[h];
@@ -85,11 +92,9 @@ fn solve_places(sums: PlaceSums, w: Shared) -> [GainFit; 60]
     fits
 }
 
-// The fits of three poles at all steps, from their woven regressors. Asked with what `gain::prepare` made of a window only.
-// Open for the integrated fit only.
+// The fits of three poles at all steps, from their woven regressors, a window's two leaky series and their sums.
 pub fn fit_steps(xs: &[f64; 12288], cs: &[f64; 2048], ts: &[f64; 2048], w: Shared) -> [GainFit; 60]
-    requires { ⌜ (w .ticks ≤ 2037) × Totals (at (now cs)) (at (now ts)) w ⌝ }
     ensures { λ r. ⌜ r ≡ fill (placeFit (now (xs .entry)) (now (cs .entry)) (now (ts .entry)) w) (replicate placeCount GainFit.Nothing) placeCount ⌝ }
 {
-    solve_places(sum_places(xs, cs, ts, w), w)
+    solve_places(sum_places(xs, cs, ts, w.carry, w.fitted()), w)
 }

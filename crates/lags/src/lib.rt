@@ -1,7 +1,7 @@
 // The lags, their poles, and the carry of a leaky sum.
 ghost use mathlib.Core.Path.{_≡_};
-ghost use Prim.Native.Nat.{_≤_, _<_};
-ghost use Rattle.lags.specs.Lags.{lagCount, lagOf, poleOf, carryOf};
+ghost use Prim.Native.Nat.{_<_, min};
+ghost use Rattle.lags.specs.Lags.{lagCount, lagOf, mostLag, WhileAtMost, poleOf, carryOf};
 
 // 0.001 s, then each the last times 1.05, while at most 0.5 s.
 const LAGS_S: [f32; 128] = [
@@ -143,16 +143,22 @@ fn lag(i: usize) -> f32
     LAGS_S[i]
 }
 
-// The poles of a grid at this tick: 0, then one for each lag. Asked for these 129 only.
-// Open for the integrated fit and its replay only.
-pub fn pole(dt_s: f32, i: usize) -> f32
-    requires { ⌜ i ≤ lagCount ⌝ }
-    ensures { λ r. ⌜ r ≡ poleOf «dt_s» i ⌝ }
+// A place among the poles, at most the last.
+fn listed(i: usize) -> usize
+    ensures { λ r. ⌜ r ≡ min i lagCount ⌝ }
 {
-    if i == 0 {
+    if i < 128 { i } else { 128 }
+}
+
+// The poles of a grid at this tick: 0, then one for each lag. A place past the last of the 129 is read as the last.
+pub fn pole(dt_s: f32, i: usize) -> f32
+    ensures { λ r. ⌜ (r ≡ poleOf «dt_s» (min i lagCount)) × WhileAtMost lagOf mostLag lagCount ⌝ }
+{
+    let place = listed(i);
+    if place == 0 {
         return 0.0;
     }
-    float::exp(-dt_s / lag(i - 1))
+    float::exp(-dt_s / lag(place - 1))
 }
 
 // What a leaky sum keeps from one tick to the next, at a time constant of 0.1 s.

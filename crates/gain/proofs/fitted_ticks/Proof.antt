@@ -1,7 +1,11 @@
--- `gain::fitted_ticks` meets its contract, a case for each way out.
+-- `gain::fitted_ticks` meets its contract, a case for each arm of its test.
+use borrow.Author.Needs.{needs}
 use native.Mathlib.Omega.{arith}
 use Rattle.gain.proofs.fitted_ticks.Statement.{statement}
 use Rattle.gain.proofs.fitted_ticks.Tie as tie
+
+stored-requires : tie.Need-stored-requires
+stored-requires c κs = search needs
 
 returns : tie.Need-returns
 returns c = omega arith
@@ -9,8 +13,5 @@ returns c = omega arith
 returns-2 : tie.Need-returns-2
 returns-2 c = omega arith
 
-returns-3 : tie.Need-returns-3
-returns-3 c = omega arith
-
 pub fitted-ticks-spec : {M : Type 1} → statement M
-fitted-ticks-spec = tie.close (tie.spec returns returns-2 returns-3)
+fitted-ticks-spec = tie.close (tie.spec stored-requires returns returns-2)

@@ -16,9 +16,6 @@ carry-requires c κs = search needs
 f32-to-f64-with-nan-requires : tie.Need-f32-to-f64-with-nan-requires
 f32-to-f64-with-nan-requires c κs = search needs
 
-sub-prepare : tie.Need-sub-prepare
-sub-prepare c = search needs
-
 prepare-requires : tie.Need-prepare-requires
 prepare-requires c κs = search needs
 
@@ -29,7 +26,7 @@ returns : tie.Need-returns
 returns c =
     let p = c .before .before .before in let z = p .before .before .before in let s = z .before .before in let a = s .args in
     let h : a .n - firstTick ≤ length (replicate 2048 zero64) = rw length-replicate (omega (arith, s .pre)) in
-    let e = window-is (a .rates .now) (a .moments .now) (a .dt-s) _ (a .n) _ _ _ _ _ h h (z .f32-to-f64-with-nan .ensures ∙ z .before .carry .ensures) (p .prepare .ensures) in
+    let e = window-is (a .rates .now) (a .moments .now) (a .dt-s) _ (a .n) _ _ _ _ _ (s .pre .1) h h (z .f32-to-f64-with-nan .ensures ∙ z .before .carry .ensures) (p .prepare .ensures) in
     rw (← e) (c .search .ensures)
 
 pub fit-long-spec : {M : Type 1} → statement M
@@ -38,7 +35,6 @@ fit-long-spec =
     (tie.spec
     carry-requires
     f32-to-f64-with-nan-requires
-    sub-prepare
     prepare-requires
     search-requires
     returns)

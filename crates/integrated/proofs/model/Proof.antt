@@ -1,6 +1,9 @@
 -- `integrated::model` meets its contract: each weight is its definition's.
-use mathlib.Core.Path.{refl}
+use Prim.Native.Nat.{min}
+use mathlib.Core.Path.{_≡_, refl}
+use native.Mathlib.Omega.{arith}
 use borrow.Author.Needs.{needs}
+use Rattle.delay.specs.Tie.{entryCount}
 use Rattle.integrated.specs.Integrated.{modelOf}
 use Rattle.integrated.proofs.model.Statement.{statement}
 use Rattle.integrated.proofs.model.Tie as tie
@@ -20,7 +23,8 @@ from-integrated-requires c κs = search needs
 returns : tie.Need-returns
 unfolding modelOf
 returns c =
-    let o = c .before .before in rw (c .from-integrated .ensures, o .older-share .ensures, o .before .before .newer-share .ensures) refl
+    let o = c .before .before in let n = o .before .before in let a = n .before .before .before .before .args in let e : min (a .position) entryCount ≡ a .position = omega arith in
+    rw (c .from-integrated .ensures, e, o .older-share .ensures, n .newer-share .ensures) refl
 
 pub model-spec : {M : Type 1} → statement M
 model-spec =

@@ -27,19 +27,17 @@ enum-known-position c = search needs
 
 choose-requires : tie.Need-choose-requires
 choose-requires c κs =
-    let d = c .before .before .before in let s = d .before .before .before in
-    let w = won zero32 _ _ (sym (d .delay-to-fit .ensures) ∙ c .before .position .given .1) in
-    (s .pre .0, w .from-one, w .in-list, s .pre .1)
+    let w = won zero32 _ _ (sym (c .before .before .before .delay-to-fit .ensures) ∙ c .before .position .given .1) in (w .from-one, w .in-list)
 
 returns : tie.Need-returns
 returns c =
     let d = c .before .before .before in let g = d .before .before in
-    c .no-model .ensures ∙ nowhere _ _ _ _ (g .keep-poles .ensures) (d .before .entries .ensures) (sym (d .delay-to-fit .ensures) ∙ c .before .enum-told .given .1)
+    c .no-model .ensures ∙ nowhere _ _ _ _ (g .keep-poles .ensures .is) (d .before .entries .ensures) (sym (d .delay-to-fit .ensures) ∙ c .before .enum-told .given .1)
 
 returns-2 : tie.Need-returns-2
 returns-2 c =
     let k = c .before .before in let d = k .before .before in let g = d .before .before in
-    c .choose .ensures ∙ at-position _ _ _ _ (g .keep-poles .ensures) (d .before .entries .ensures) _ (sym (d .delay-to-fit .ensures) ∙ k .position .given .1)
+    c .choose .ensures ∙ at-position _ _ _ _ (g .keep-poles .ensures .is) (d .before .entries .ensures) _ (sym (d .delay-to-fit .ensures) ∙ k .position .given .1)
 
 pub search-spec : {M : Type 1} → statement M
 search-spec =

@@ -5,10 +5,10 @@ use Rattle.integrated_vectors.proofs.grid_agrees.Statement.{statement}
 use Rattle.integrated_vectors.proofs.grid_agrees.Tie as tie
 
 abbrev Inv-loop : tie.InvT-loop
-Inv-loop s n kept end step₀ step = (step ≤ 20) × (end ≤ 16392)
+Inv-loop s n dt-s carry kept end step₀ step = (step ≤ 20) × (end ≤ 16392)
 
 abbrev μ-loop : tie.MeasureT-loop
-μ-loop s n kept end step₀ step = 20 - step
+μ-loop s n dt-s carry kept end step₀ step = 20 - step
 
 count-requires : tie.Need-count-requires Inv-loop μ-loop
 count-requires c κs = search needs
@@ -25,8 +25,17 @@ load-requires-2 c κs = search needs
 float-at-requires : tie.Need-float-at-requires Inv-loop μ-loop
 float-at-requires c κs = search needs
 
-keep-window-requires : tie.Need-keep-window-requires Inv-loop μ-loop
-keep-window-requires c κs = search needs
+carry-requires : tie.Need-carry-requires Inv-loop μ-loop
+carry-requires c κs = search needs
+
+f32-to-f64-with-nan-requires : tie.Need-f32-to-f64-with-nan-requires Inv-loop μ-loop
+f32-to-f64-with-nan-requires c κs = search needs
+
+prepare-requires : tie.Need-prepare-requires Inv-loop μ-loop
+prepare-requires c κs = search needs
+
+keep-poles-requires : tie.Need-keep-poles-requires Inv-loop μ-loop
+keep-poles-requires c κs = search needs
 
 mul-end : tie.Need-mul-end Inv-loop μ-loop
 mul-end c = search needs
@@ -78,7 +87,10 @@ grid-agrees-spec =
     load-requires
     load-requires-2
     float-at-requires
-    keep-window-requires
+    carry-requires
+    f32-to-f64-with-nan-requires
+    prepare-requires
+    keep-poles-requires
     mul-end
     add-end
     loop-holds

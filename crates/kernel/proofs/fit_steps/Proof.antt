@@ -10,6 +10,9 @@ use Rattle.kernel.specs.Kernel.{placeCount, placeSums}
 use Rattle.kernel.proofs.fit_steps.Statement.{statement}
 use Rattle.kernel.proofs.fit_steps.Tie as tie
 
+fitted-requires : tie.Need-fitted-requires
+fitted-requires c κs = search needs
+
 sum-places-requires : tie.Need-sum-places-requires
 sum-places-requires c κs = search needs
 
@@ -18,10 +21,10 @@ solve-places-requires c κs = search needs
 
 returns : tie.Need-returns
 returns c =
-    let s = c .before in let z = s .before in let a = z .args in
+    let s = c .before in let f = s .before in let a = f .before .args in
     c .solve-places .ensures
     ∙ fill-same _ _ (replicate placeCount Nothing) placeCount
-    (λ p k q. solved-is _ (at (a .cs .now)) (at (a .ts .now)) (placeSums (s .sum-places .result) p) (a .w) (s .sum-places .ensures p q) (z .pre .1))
+    (λ p k q. solved-is _ (at (a .cs .now)) (at (a .ts .now)) (placeSums (s .sum-places .result) p) (a .w) (rw (f .fitted .ensures) at (s .sum-places .ensures p q)))
 
 pub fit-steps-spec : {M : Type 1} → statement M
-fit-steps-spec = tie.close (tie.spec sum-places-requires solve-places-requires returns)
+fit-steps-spec = tie.close (tie.spec fitted-requires sum-places-requires solve-places-requires returns)

@@ -4,7 +4,7 @@ use Prim.Native.Nat.{_≤_, _-_, _+_, _*_}
 use mathlib.Core.Path.{_≡_, refl}
 use native.Mathlib.Omega.{arith}
 use Rattle.float.specs.Series.{at}
-use Rattle.gain.specs.Prepared.{laneCount}
+use Rattle.lanes.specs.Lanes.{laneCount}
 use Rattle.kernel.proofs.Lanes.{Lanes, begin, on, turn}
 use Rattle.kernel.proofs.sum_lanes.Statement.{statement}
 use Rattle.kernel.proofs.sum_lanes.Tie as tie

@@ -6,23 +6,23 @@ use native.Mathlib.Nat.{add-zero}
 use native.Mathlib.Omega.{arith}
 use Rattle.float.specs.Series.{at}
 use Rattle.gain.specs.Gain.{through}
-use Rattle.gain.specs.Prepared.{laneCount}
+use Rattle.lanes.specs.Lanes.{laneCount}
 use Rattle.kernel.specs.Kernel.{placeCount, placeSeries}
 use Rattle.kernel.proofs.Places.{Places, lane-is, none, one-more, all-summed}
 use Rattle.kernel.proofs.sum_places.Statement.{statement}
 use Rattle.kernel.proofs.sum_places.Tie as tie
 
 abbrev Inv-loop2 : tie.InvT-loop2
-Inv-loop2 xs cs ts w mm₀ mc₀ mt₀ d sums h₀ mm mc mt h = (h ≤ laneCount) × Places (λ p. through (w .carry) (placeSeries xs p)) (at cs) (at ts) (w .ticks) (d * laneCount + h) mm mc mt
+Inv-loop2 xs cs ts carry n mm₀ mc₀ mt₀ d sums h₀ mm mc mt h = (h ≤ laneCount) × Places (λ p. through carry (placeSeries xs p)) (at cs) (at ts) n (d * laneCount + h) mm mc mt
 
 abbrev μ-loop2 : tie.MeasureT-loop2
-μ-loop2 xs cs ts w mm₀ mc₀ mt₀ d sums h₀ mm mc mt h = laneCount - h
+μ-loop2 xs cs ts carry n mm₀ mc₀ mt₀ d sums h₀ mm mc mt h = laneCount - h
 
 abbrev Inv-loop : tie.InvT-loop
-Inv-loop xs cs ts w mm₀ mc₀ mt₀ d₀ mm mc mt d = (d ≤ 10) × Places (λ p. through (w .carry) (placeSeries xs p)) (at cs) (at ts) (w .ticks) (d * laneCount) mm mc mt
+Inv-loop xs cs ts carry n mm₀ mc₀ mt₀ d₀ mm mc mt d = (d ≤ 10) × Places (λ p. through carry (placeSeries xs p)) (at cs) (at ts) n (d * laneCount) mm mc mt
 
 abbrev μ-loop : tie.MeasureT-loop
-μ-loop xs cs ts w mm₀ mc₀ mt₀ d₀ mm mc mt d = 10 - d
+μ-loop xs cs ts carry n mm₀ mc₀ mt₀ d₀ mm mc mt d = 10 - d
 
 loop-holds : tie.Need-loop-holds Inv-loop2 μ-loop2 Inv-loop μ-loop
 loop-holds c = (omega arith, none _ _ _ _)

@@ -1,18 +1,8 @@
--- `lags::lag` meets its contract: the table's patterns pass the test that each is 1.05 times the one before, so that each entry is its lag.
-use Prim.Native.Nat.{ℕ}
-use mathlib.Core.Path.{refl}
-use mathlib.Core.List.{List, [], _∷_}
-use native.Mathlib.Nat.{zero-add}
+-- `lags::lag` meets its contract: each entry of the table is its lag (proofs/Table.antt).
 use borrow.Author.Needs.{needs}
-use lib.Ieee.{nan}
-use Rattle.lags.specs.Lags.{lagOf}
-use Rattle.lags.proofs.Table.{chain, entry}
+use Rattle.lags.proofs.Table.{first, others, table-at}
 use Rattle.lags.proofs.lag.Statement.{statement}
 use Rattle.lags.proofs.lag.Tie as tie
-
--- the entries after the first, as bit patterns
-rest : List ℕ
-rest = 0x3a89_a027 ∷ 0x3a90_81c2 ∷ 0x3a97_bb72 ∷ 0x3a9f_519e ∷ 0x3aa7_48e5 ∷ 0x3aaf_a623 ∷ 0x3ab8_6e71 ∷ 0x3ac1_a729 ∷ 0x3acb_55ea ∷ 0x3ad5_809b ∷ 0x3ae0_2d6f ∷ 0x3aeb_62e7 ∷ 0x3af7_27d8 ∷ 0x3b01_c1b7 ∷ 0x3b08_3e99 ∷ 0x3b0f_0e87 ∷ 0x3b16_35a7 ∷ 0x3b1d_b855 ∷ 0x3b25_9b26 ∷ 0x3b2d_e2e7 ∷ 0x3b36_94a5 ∷ 0x3b3f_b5ad ∷ 0x3b49_4b8f ∷ 0x3b53_5c22 ∷ 0x3b5d_ed89 ∷ 0x3b69_0636 ∷ 0x3b74_aceb ∷ 0x3b80_7461 ∷ 0x3b86_e099 ∷ 0x3b8d_9f07 ∷ 0x3b94_b3c7 ∷ 0x3b9c_232a ∷ 0x3ba3_f1b8 ∷ 0x3bac_2434 ∷ 0x3bb4_bf9c ∷ 0x3bbd_c930 ∷ 0x3bc7_4672 ∷ 0x3bd1_3d2a ∷ 0x3bdb_b36b ∷ 0x3be6_af96 ∷ 0x3bf2_385d ∷ 0x3bfe_54c7 ∷ 0x3c05_861b ∷ 0x3c0c_3336 ∷ 0x3c13_35c5 ∷ 0x3c1a_920e ∷ 0x3c22_4c8e ∷ 0x3c2a_69fb ∷ 0x3c32_ef47 ∷ 0x3c3b_e1a4 ∷ 0x3c45_4685 ∷ 0x3c4f_23a5 ∷ 0x3c59_7f06 ∷ 0x3c64_5ef9 ∷ 0x3c6f_ca1e ∷ 0x3c7b_c76c ∷ 0x3c84_2f18 ∷ 0x3c8a_cb0c ∷ 0x3c91_bb99 ∷ 0x3c99_04fa ∷ 0x3ca0_aba0 ∷ 0x3ca8_b434 ∷ 0x3cb1_239c ∷ 0x3cb9_fefd ∷ 0x3cc3_4bbc ∷ 0x3ccd_0f85 ∷ 0x3cd7_504b ∷ 0x3ce2_144e ∷ 0x3ced_621e ∷ 0x3cf9_409f ∷ 0x3d02_db86 ∷ 0x3d09_667f ∷ 0x3d10_4538 ∷ 0x3d17_7be1 ∷ 0x3d1f_0edf ∷ 0x3d27_02d0 ∷ 0x3d2f_5c8d ∷ 0x3d38_212d ∷ 0x3d41_5608 ∷ 0x3d4b_00bb ∷ 0x3d55_272a ∷ 0x3d5f_cf85 ∷ 0x3d6b_004b ∷ 0x3d76_c04e ∷ 0x3d81_8b5c ∷ 0x3d88_0587 ∷ 0x3d8e_d29a ∷ 0x3d95_f6bb ∷ 0x3d9d_7644 ∷ 0x3da5_55c7 ∷ 0x3dad_9a10 ∷ 0x3db6_482a ∷ 0x3dbf_655f ∷ 0x3dc8_f73d ∷ 0x3dd3_0399 ∷ 0x3ddd_9093 ∷ 0x3de8_a49a ∷ 0x3df4_466e ∷ 0x3e00_3e93 ∷ 0x3e06_a81a ∷ 0x3e0d_63b4 ∷ 0x3e14_757d ∷ 0x3e1b_e1c3 ∷ 0x3e23_ad0c ∷ 0x3e2b_dc19 ∷ 0x3e34_73e7 ∷ 0x3e3d_79b2 ∷ 0x3e46_f2fa ∷ 0x3e50_e586 ∷ 0x3e5b_5766 ∷ 0x3e66_4ef7 ∷ 0x3e71_d2e9 ∷ 0x3e7d_ea41 ∷ 0x3e85_4e2f ∷ 0x3e8b_f87e ∷ 0x3e92_f81d ∷ 0x3e9a_5151 ∷ 0x3ea2_0895 ∷ 0x3eaa_229c ∷ 0x3eb2_a456 ∷ 0x3ebb_92f3 ∷ 0x3ec4_f3e5 ∷ 0x3ece_cce3 ∷ 0x3ed9_23ee ∷ 0x3ee3_ff53 ∷ 0x3eef_65b0 ∷ 0x3efb_5df8 ∷ []
 
 mul-result : tie.Need-mul-result
 mul-result c = search needs
@@ -21,8 +11,8 @@ array-read-result : tie.Need-array-read-result
 array-read-result c = search needs
 
 returns : tie.Need-returns
-unfolding rest chain lagOf
-returns c = rw zero-add at (entry 0x3a83_126f rest nan 0 refl tt (c .args .i) (search needs))
+unfolding first others
+returns c = table-at (c .args .i) (search needs)
 
 pub lag-spec : {M : Type 1} → statement M
 lag-spec = tie.close (tie.spec mul-result array-read-result returns)

@@ -1,0 +1,3 @@
+pub mod Woven
+pub mod Poles
+pub mod Fit
