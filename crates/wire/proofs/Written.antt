@@ -1,24 +1,52 @@
--- Bytes written over a list: how long it stays, and how two writes beside each other are one.
-use Prim.Native.Nat.{ℕ, _+_, _*_, _≤_, _<_}
+-- Bytes written over a list: how long it stays, when they fit, and how two writes beside each other are one.
+use Prim.Native.Nat.{ℕ, _+_, _*_, _/_, _%_, _≤_, _<_}
 use mathlib.Core.Path.{_≡_, _∙_}
+use mathlib.Core.Logic.{⊎-elim}
 use mathlib.Core.List.{List, [], _∷_, _++_, append-assoc, map, map-append}
-use native.Mathlib.Nat.{zero-add, add-zero, add-assoc}
+use native.Mathlib.Nat.{zero-add, add-zero, add-assoc, div-one}
 use native.Mathlib.Numerals.{add-one, add-two, add-three}
 use native.Mathlib.Omega.{arith}
+use borrow.Author.Tests.{le-leb, lt-leb}
 use lib.Ieee.{Float}
 use lib.ListN.{length, getD, take, drop, set, length-map, length-append, length-take, length-drop, take-append-drop}
 use lib.Seq.{sets-eq, take-suc, take-at, drop-at, take-append-le, drop-append-add, drop-drop, take-take}
-use Rattle.wire.specs.Words.{bytesOf, wordBytes, wordOf, writtenAt}
-use Rattle.wire.proofs.Bytes.{length-words, one-word, words-append}
+use Rattle.float.proofs.Digits.{lt-or-ge}
+use Rattle.wire.specs.Words.{bytesOf, wordBytes, wordOf, writtenAt, writtenWithin}
+use Rattle.wire.proofs.Bytes.{length-bytes, length-words, one-word, words-append}
 
 -- four stores beside each other
-pub four-written : (l : List ℕ) (i a b c d : ℕ) → i + 4 ≤ length l → set (set (set (set l i a) (i + 1) b) (i + 2) c) (i + 3) d ≡ writtenAt i (a ∷ b ∷ c ∷ d ∷ []) l
+four-written : (l : List ℕ) (i a b c d : ℕ) → i + 4 ≤ length l → set (set (set (set l i a) (i + 1) b) (i + 2) c) (i + 3) d ≡ writtenAt i (a ∷ b ∷ c ∷ d ∷ []) l
 unfolding writtenAt
 four-written l i a b c d h = rw (add-one i, add-two i, add-three i) (sets-eq (a ∷ b ∷ c ∷ d ∷ []) l i h ∙ append-assoc (take i l) (a ∷ b ∷ c ∷ d ∷ []) (drop (i + 4) l))
+
+-- the four bytes of a word, stored one by one
+pub word-stored : (i w : ℕ) (l : List ℕ) → i + 4 ≤ length l → set (set (set (set l i (w / 0x100_0000 % 256)) (i + 1) (w / 0x1_0000 % 256)) (i + 2) (w / 0x100 % 256)) (i + 3) (w % 256) ≡ writtenAt i (bytesOf 4 w) l
+unfolding bytesOf
+word-stored i w l h = rw div-one (four-written l i (w / 0x100_0000 % 256) (w / 0x1_0000 % 256) (w / 0x100 % 256) (w % 256) h)
 
 pub length-written : (i : ℕ) (xs l : List ℕ) → i + length xs ≤ length l → length (writtenAt i xs l) ≡ length l
 unfolding writtenAt
 length-written i xs l h = simp (length-append, length-take, length-drop) (omega arith)
+
+-- what fits is written, what does not fit leaves the list, and its length stays in both cases
+module _ (i : ℕ) (xs l : List ℕ) where
+  pub within : i + length xs ≤ length l → writtenWithin i xs l ≡ writtenAt i xs l
+  unfolding writtenWithin
+  within h = rw (le-leb (i + length xs) (length l) h)
+
+  pub past : length l < i + length xs → writtenWithin i xs l ≡ l
+  unfolding writtenWithin
+  past h = rw (lt-leb (i + length xs) (length l) h)
+
+  pub length-within : length (writtenWithin i xs l) ≡ length l
+  length-within = ⊎-elim (λ (h : length l < i + length xs). rw (past h)) (λ (h : i + length xs ≤ length l). rw (within h) (length-written i xs l h)) (lt-or-ge (length l) (i + length xs))
+
+-- the four bytes of a word
+pub word-within : (i w : ℕ) (l : List ℕ) → i + 4 ≤ length l → writtenWithin i (bytesOf 4 w) l ≡ writtenAt i (bytesOf 4 w) l
+word-within i w l h = within i (bytesOf 4 w) l (rw length-bytes h)
+
+pub word-past : (i w : ℕ) (l : List ℕ) → length l < i + 4 → writtenWithin i (bytesOf 4 w) l ≡ l
+word-past i w l h = past i (bytesOf 4 w) l (rw length-bytes h)
 
 pub nothing-written : (i : ℕ) (l : List ℕ) → writtenAt i [] l ≡ l
 unfolding writtenAt

@@ -1,6 +1,8 @@
 -- 32-bit words and floats as bytes, big-endian: 01, "The report" and "The byte run".
 use Prim.Native.Nat.{ℕ, zero, suc, _+_, _*_, _/_, _%_, _^_}
+use mathlib.Core.Bool.{cond}
 use mathlib.Core.List.{List, [], _∷_, _++_}
+use lib.Dec.{leb}
 use lib.ListN.{length, getD, take, drop}
 use lib.Ieee.{Float, binary32, ofBits, toBits}
 
@@ -28,3 +30,7 @@ floatAt bytes i = ofBits binary32 (wordAt bytes i)
 -- a list with some of its elements, from place i on, written over
 unfoldable pub writtenAt : ℕ → List ℕ → List ℕ → List ℕ
 writtenAt i bytes l = take i l ++ (bytes ++ drop (i + length bytes) l)
+
+-- the same where the elements fit; a list that they do not fit stays as it is
+unfoldable pub writtenWithin : ℕ → List ℕ → List ℕ → List ℕ
+writtenWithin i bytes l = cond (leb (i + length bytes) (length l)) (writtenAt i bytes l) l

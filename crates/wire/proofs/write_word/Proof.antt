@@ -1,13 +1,18 @@
--- Four stores beside each other are one write, and the bytes stored are those of `bytesOf`.
-use Prim.Native.Nat.{_/_, _%_}
-use native.Mathlib.Nat.{div-one}
+-- Four stores beside each other are one write, and the bytes stored are those of `bytesOf`; where they do not fit nothing is stored.
+use Prim.Native.Nat.{_+_, _≤_}
+use mathlib.Core.Path.{sym, _∙_}
 use native.Mathlib.Omega.{arith}
 use borrow.Author.Needs.{needs}
-use lib.ListN.{length-set}
-use Rattle.wire.specs.Words.{bytesOf}
-use Rattle.wire.proofs.Written.{four-written}
+use lib.ListN.{length, length-set}
+use Rattle.wire.proofs.Written.{word-stored, word-within, word-past}
 use Rattle.wire.proofs.write_word.Statement.{statement}
 use Rattle.wire.proofs.write_word.Tie as tie
+
+left-requires : tie.Need-left-requires
+left-requires c κs = search needs
+
+returns : tie.Need-returns
+returns c = let a = c .before .before .before .args in sym (word-past (a .at) (a .word) (a .out .now) (omega arith))
 
 cast-out : tie.Need-cast-out
 cast-out c = search needs
@@ -45,17 +50,18 @@ slice-write-out-4 c = simp length-set (omega arith)
 same-length : tie.Need-same-length
 same-length c = search needs
 
-returns : tie.Need-returns
-unfolding bytesOf
-returns c =
-    let a = c .args in
-    let w = a .word in
-    rw div-one (four-written (a .out .now) (a .at) (w / 0x100_0000 % 256) (w / 0x1_0000 % 256) (w / 0x100 % 256) (w % 256) (c .pre))
+returns-2 : tie.Need-returns-2
+returns-2 c =
+    let a = c .before .before .before .args in
+    let fits : a .at + 4 ≤ length (a .out .now) = omega arith in
+    word-stored (a .at) (a .word) (a .out .now) fits ∙ sym (word-within (a .at) (a .word) (a .out .now) fits)
 
 pub write-word-spec : {M : Type 1} → statement M
 write-word-spec =
     tie.close
     (tie.spec
+    left-requires
+    returns
     cast-out
     slice-write-out
     cast-out-2
@@ -68,4 +74,4 @@ write-word-spec =
     add-out-3
     slice-write-out-4
     same-length
-    returns)
+    returns-2)
