@@ -22,8 +22,8 @@ load-requires c κs = search needs
 load-requires-2 : tie.Need-load-requires-2 Inv-loop μ-loop
 load-requires-2 c κs = search needs
 
-float-at-requires : tie.Need-float-at-requires Inv-loop μ-loop
-float-at-requires c κs = search needs
+read-float-requires : tie.Need-read-float-requires Inv-loop μ-loop
+read-float-requires c κs = search needs
 
 keep-window-requires : tie.Need-keep-window-requires Inv-loop μ-loop
 keep-window-requires c κs = search needs
@@ -77,7 +77,7 @@ grid-agrees-spec =
     returns
     load-requires
     load-requires-2
-    float-at-requires
+    read-float-requires
     keep-window-requires
     mul-end
     add-end
