@@ -122,7 +122,7 @@ fn read_window(
     }
 }
 
-// A window, f window duration; the sums of each of ten delays, by itself and from the shared ones.
+// A window, w rows; the sums of each of ten delays, which are held to those made for it alone and from the shared ones.
 fn sums_agree(s: &[u8]) -> bool {
     let n = stored(s);
     let mut rates = [0.0f32; 2048];
