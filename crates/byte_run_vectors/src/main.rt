@@ -1,19 +1,9 @@
 // Replays whole byte runs and prints how many of each file agree in result and in every byte of the output.
 // runs.bin holds the reference's answers, written by the command in host/README.md with seed 1; examples.bin the worked examples of
 // docs/01-scope.md, written by host/make_examples.py. host/README.md has the layout of both, "runs".
-use vectors::Read;
-use vectors::Tally;
-use vectors::next_word;
-
-// More runs than any file has.
-const MOST: u64 = 1000;
-
-// The longest configuration, calls and output of any run.
-const CONFIG: usize = 32;
-
-const CALLS: usize = 26832;
-
-const OUTPUT: usize = 8980;
+use vectors::Records;
+use vectors::part;
+use wire::read_word;
 
 // An output before a run: byte k is 31·k + 165 mod 256.
 fn fill(output: &mut [u8]) {
@@ -24,109 +14,73 @@ fn fill(output: &mut [u8]) {
     }
 }
 
-fn same(a: &[u8], b: &[u8]) -> bool {
-    if a.len() != b.len() {
-        return false;
-    }
+// Byte k, or another where there is none.
+fn byte_or(s: &[u8], k: usize, other: u8) -> u8 {
+    if k < s.len() { s[k] } else { other }
+}
+
+// Whether an output begins with the expected bytes, and after them is as it was filled.
+fn holds(output: &[u8], expected: &[u8]) -> bool {
+    let mut b: u8 = 165;
     let mut ok = true;
-    for k in 0..a.len() {
-        ok = ok & (a[k] == b[k]);
+    for k in 0..output.len() {
+        ok = ok & (output[k] == byte_or(expected, k, b));
+        b = std::num::wrapping_add_u8(b, 31);
     }
     ok
 }
 
-// Whether n bytes were read, to the start of a buffer that has room for them.
-fn read_part(fd: i32, buffer: &mut [u8], n: usize) -> bool {
-    if buffer.len() < n {
-        return false;
-    }
-    io::read_full(fd, &mut buffer[..n]) == n
-}
-
-// Whether the run on the first bytes of each buffer answers the result.
-fn answers(
-    result: u32,
+// Whether a run answers the result and writes the expected bytes and no others.
+fn run_agrees(
     config: &[u8],
-    config_len: usize,
     calls: &[u8],
-    calls_len: usize,
+    result: u32,
+    expected: &[u8],
     output: &mut [u8],
-    output_len: usize,
 ) -> bool {
-    if config.len() < config_len {
-        return false;
-    }
-    if calls.len() < calls_len {
-        return false;
-    }
-    if output.len() < output_len {
-        return false;
-    }
-    byte_run::identify_byte_run(
-        &config[..config_len],
-        &calls[..calls_len],
-        &mut output[..output_len],
-    )
-        == result
-}
-
-// Whether a run whose first word has been read goes as its file says. The buffers are compared whole, so the bytes after the
-// run's output too.
-fn agrees_within(
-    fd: i32,
-    first: u32,
-    config: &mut [u8],
-    calls: &mut [u8],
-    output: &mut [u8],
-    expected: &mut [u8],
-) -> bool {
-    let config_len = first as usize;
-    let calls_len = next_word(fd) as usize;
-    let output_len = next_word(fd) as usize;
     fill(output);
-    fill(expected);
-    let has_config = read_part(fd, config, config_len);
-    let has_calls = read_part(fd, calls, calls_len);
-    let result = next_word(fd);
-    let has_output = read_part(fd, expected, output_len);
-    let answered = answers(
-        result,
-        config,
-        config_len,
-        calls,
-        calls_len,
-        output,
-        output_len,
-    );
-    has_config & has_calls & has_output & answered & same(output, expected)
+    let n = expected.len();
+    if output.len() < n {
+        return false;
+    }
+    let answered = byte_run::identify_byte_run(config, calls, &mut output[..n]);
+    (answered == result) & holds(output, expected)
 }
 
-fn agrees(fd: i32, first: u32) -> bool {
-    let mut config = [0u8; CONFIG];
-    let mut calls = [0u8; CALLS];
-    let mut output = [0u8; OUTPUT];
-    let mut expected = [0u8; OUTPUT];
-    agrees_within(
-        fd,
-        first,
-        &mut config,
-        &mut calls,
+// w lengths of the configuration, the calls and the output; the configuration, the calls; w result; the output.
+fn agrees(s: &[u8]) -> bool {
+    let mut output = io::large_buffer();
+    let config = read_word(s, 0) as usize;
+    let calls = read_word(s, 4) as usize;
+    let expected = read_word(s, 8) as usize;
+    let end = 12 + config + calls;
+    run_agrees(
+        part(s, 12, config),
+        part(s, 12 + config, calls),
+        read_word(s, end),
+        part(s, end + 4, expected),
         &mut output,
-        &mut expected,
     )
+}
+
+fn record_size(s: &[u8]) -> usize {
+    16 + (read_word(s, 0) as usize) + (read_word(s, 4) as usize) + (read_word(s, 8) as usize)
+}
+
+fn replayed(s: &[u8], file: Records) -> Records {
+    let mut records = file;
+    while 0 < records.left {
+        let record = vectors::rest(s, records.left);
+        records = records.with(record_size(record), agrees(record));
+    }
+    records
 }
 
 fn replay(name: &[u8], path: &[u8]) {
-    let fd = vectors::open(path);
-    let mut tally = Tally::new();
-    for _ in 0..MOST {
-        let Read::Word(first) = vectors::read_word(fd) else {
-            break;
-        };
-        tally = tally.with(agrees(fd, first));
-    }
-    libc::close(fd);
-    tally.print(name);
+    let mut buffer = vectors::buffer();
+    let file = Records::read(path, &mut buffer);
+    let n = file.left;
+    replayed(&buffer[..n], file).print(name, path);
 }
 
 fn main() {

@@ -5,18 +5,18 @@ use mathlib.Core.Bool.{Bool, true, false, not, cond, true≢false}
 use Prim.Native.Nat.{ℕ, zero, suc, _-_, _*_, _^_, _≤_, _<_}
 use native.Mathlib.Nat.{mul-pos, pow-suc, zero-lt-suc}
 use native.Mathlib.Omega.{arith}
-use borrow.Author.Tests.{lt-ltb, ltb-false}
+use borrow.Author.Tests.{le-ltb, ne-eqb, ltb-false}
 use lib.Dec.{T, eqb→eq, lit<, lit≤}
 use lib.IntN.{ℤ, pos, negsuc}
 use lib.Pow.{pow-pos}
-use lib.Ieee.{Float, nan, inf, fin, binary32, binary64, up, down, ofBits, ofInt, add, mul, div, lt, le, fits, isNan}
+use lib.Ieee.{Float, nan, inf, fin, binary32, binary64, up, down, ofBits, ofInt, add, mul, div, lt, le, fits}
 use lib.Ieee.Back.{round-whole}
 use lib.Ieee.Exact.{HasValue}
 use lib.Ieee.Fits.{up-pos, down-pos}
 use lib.Ieee.Order.{le-of-values}
 use Rattle.float.specs.Values.{zero32, one32, one64}
 use Rattle.float.specs.Narrow.{narrowed}
-use Rattle.float.specs.Exp.{horner, squared, expOf}
+use Rattle.float.specs.Exp.{horner, squared, expOf, InUnit}
 use Rattle.float.proofs.Unit.{Small, one, round-small, mul-small, div-small, add-small}
 
 -- ---- the steps
@@ -96,22 +96,23 @@ zero-exponent (pos zero) h = refl
 zero-exponent (pos (suc k)) h = absurd (let r : ⊥ = omega (arith, h, pow-suc 2 k, pow-pos k) in r)
 zero-exponent (negsuc k) h = absurd (let r : ⊥ = omega (arith, h, pow-suc 2 k, pow-pos k) in r)
 
-above : (m : ℕ) (e : ℤ) → lt zero32 (fin false (suc m) e) ≡ true
-unfolding lt ofBits
-above m e = lt-ltb (0 * 1 * down e) (suc m * up e * 1) (let r : 0 * 1 * down e < suc m * up e * 1 = omega (arith, mul-pos (zero-lt-suc m) (up-pos e)) in r)
+-- what is above 0 is not at most 0
+above : (m : ℕ) (e : ℤ) → T (le (fin false (suc m) e) zero32) → ⊥
+unfolding le ofBits
+above m e h =
+    let a = suc m * up e * 1 in
+    let b = 0 * 1 * down e in
+    let p : b < a = omega (arith, mul-pos (zero-lt-suc m) (up-pos e)) in
+    rw (le-ltb a b (omega arith), ne-eqb a b (λ (i : a ≡ b). omega arith)) at h
 
-above-infinite : lt zero32 (inf false) ≡ true
-unfolding lt ofBits
-above-infinite = refl
-
-exp-small : (x : Float) → T (fits binary32 x) → T (not (isNan x)) → lt zero32 x ≡ false → Small false (expOf x)
-unfolding fits isNan
-exp-small nan f n h = absurd n
-exp-small (inf true) f n h = infinite-small
-exp-small (inf false) f n h = absurd (true≢false (sym above-infinite ∙ h))
-exp-small (fin true m e) f n h = negative-small m e
-exp-small (fin false zero e) f n h = subst (λ (z : ℤ). Small false (expOf (fin false 0 z))) (sym (zero-exponent e (eqb→eq (up e * down e) 1 f))) nothing-small
-exp-small (fin false (suc m) e) f n h = absurd (true≢false (sym (above m e) ∙ h))
+exp-small : (x : Float) → T (fits binary32 x) → T (le x zero32) → Small false (expOf x)
+unfolding fits le ofBits
+exp-small nan f h = absurd h
+exp-small (inf true) f h = infinite-small
+exp-small (inf false) f h = absurd h
+exp-small (fin true m e) f h = negative-small m e
+exp-small (fin false zero e) f h = subst (λ (z : ℤ). Small false (expOf (fin false 0 z))) (sym (zero-exponent e (eqb→eq (up e * down e) 1 f))) nothing-small
+exp-small (fin false (suc m) e) f h = absurd (above m e h)
 
 -- ---- the law
 zero-value : HasValue zero32 false 0 1
@@ -122,15 +123,15 @@ one-value : HasValue one32 false 1 1
 unfolding ofBits
 one-value = (refl, refl)
 
-in-unit : (y : Float) → Small false y → T (le zero32 y) × T (le y one32)
+in-unit : (y : Float) → Small false y → InUnit y
 in-unit nan p = absurd p
 in-unit (inf s) p = absurd p
 in-unit (fin true m e) p = absurd (true≢false (p .0))
-in-unit (fin false m e) p = (
-  le-of-values zero32 (fin false m e) 0 1 (m * up e) (down e) (lit< tt) (down-pos e) zero-value (refl, refl) (let r : 0 * down e ≤ m * up e * 1 = omega arith in r),
-  le-of-values (fin false m e) one32 (m * up e) (down e) 1 1 (down-pos e) (lit< tt) (refl, refl) one-value (let r : m * up e * 1 ≤ 1 * down e = omega (arith, p .1) in r),
-)
+in-unit (fin false m e) p = record {
+  from-zero = le-of-values zero32 (fin false m e) 0 1 (m * up e) (down e) (lit< tt) (down-pos e) zero-value (refl, refl) (let r : 0 * down e ≤ m * up e * 1 = omega arith in r);
+  to-one = le-of-values (fin false m e) one32 (m * up e) (down e) 1 1 (down-pos e) (lit< tt) (refl, refl) one-value (let r : m * up e * 1 ≤ 1 * down e = omega (arith, p .1) in r);
+}
 
--- exp of any f32 that is not above 0 lies in 0 to 1
-pub exp-unit : (x : Float) → T (fits binary32 x) → T (not (isNan x)) → lt zero32 x ≡ false → T (le zero32 (expOf x)) × T (le (expOf x) one32)
-exp-unit x f n h = in-unit (expOf x) (exp-small x f n h)
+-- exp of any f32 that is at most 0
+pub exp-unit : (x : Float) → T (fits binary32 x) → T (le x zero32) → InUnit (expOf x)
+exp-unit x f h = in-unit (expOf x) (exp-small x f h)

@@ -1,9 +1,10 @@
 -- expf for x <= 0, worked out in f64: 01, "Stand-ins for libm and nalgebra".
 use Prim.Native.Nat.{ℕ, zero, suc, _-_}
 use mathlib.Core.Bool.{cond}
+use lib.Dec.{T}
 use lib.IntN.{pos, negsuc}
-use lib.Ieee.{Float, binary64, ofInt, add, mul, div, lt}
-use Rattle.float.specs.Values.{zero32, one64}
+use lib.Ieee.{Float, binary64, ofInt, add, mul, div, lt, le}
+use Rattle.float.specs.Values.{zero32, one32, one64}
 use Rattle.float.specs.Narrow.{narrowed}
 
 -- "start with 1, then for n = 8 down to 1 take 1 + (t/n)·(last)": after k of the terms, so that the next n is 8 - k
@@ -21,3 +22,8 @@ unfoldable pub expOf : Float → Float
 expOf x =
     cond (lt x (ofInt binary64 (negsuc 103))) zero32
     (narrowed (squared 10 (horner (div binary64 x (ofInt binary64 (pos 1024))) 8)))
+
+-- "Its answer lies in 0 to 1."
+pub record InUnit (y : Float) : Type 0 where
+  pub from-zero : T (le zero32 y)
+  pub to-one : T (le y one32)

@@ -2,12 +2,14 @@
 ghost use mathlib.Core.Path.{_≡_};
 ghost use mathlib.Core.Logic.{_⊎_};
 ghost use Prim.Native.Nat.{_+_, _*_, _^_, _≤_, _<_, min as minimum};
-ghost use lib.Ieee.{nan, binary32, binary64, ofBits, toBits, units, round};
+ghost use lib.Dec.{T};
+ghost use lib.Ieee.{nan, binary32, binary64, ofBits, toBits, units, round, le};
 ghost use lib.Ieee.Nearest.{closest};
-ghost use Rattle.float.specs.Values.{finite, maxZero, least};
+ghost use lib.Ieee.Positive.{positive};
+ghost use Rattle.float.specs.Values.{zero32, finite, maxZero, least};
 ghost use Rattle.float.specs.Narrow.{narrowed};
-ghost use Rattle.float.specs.Root.{rootOf, rooted};
-ghost use Rattle.float.specs.Exp.{horner, squared, expOf};
+ghost use Rattle.float.specs.Root.{rootOf, rooted, NearestRoot};
+ghost use Rattle.float.specs.Exp.{horner, squared, expOf, InUnit};
 
 // ---- single values
 
@@ -188,10 +190,11 @@ fn root_of(m: u64, e: u64) -> f32
     packed(false, root, k)
 }
 
-// The nearest f32 to the square root of a positive value (`nearest-root`, proofs/RootNear.antt);
-// 0 of 0, -0 of -0, infinity of infinity, NaN of any other negative value.
+// The nearest f32 to the square root of a positive value; 0 of 0, -0 of -0, infinity of infinity,
+// NaN of any other negative value.
 pub fn root(x: f32) -> f32
-    ensures { λ r. ⌜ r ≡ rooted x ⌝ }
+    ensures value { λ r. ⌜ r ≡ rooted x ⌝ }
+    ensures nearest { λ r. ⌜ (T (positive x) → NearestRoot x r) ⌝ }
 {
     if x != x {
         return not_a_number();
@@ -239,9 +242,10 @@ fn squared_ten_times(x: f64) -> f64
 }
 
 // e^x for x <= 0: 0 below -104, else the series at x/1024 in f64, squared ten times and narrowed.
-// Its answer for such an x lies in 0 to 1 (`exp-unit`, proofs/ExpUnit.antt).
+// Its answer for such an x lies in 0 to 1.
 pub fn exp(x: f32) -> f32
-    ensures { λ r. ⌜ r ≡ expOf x ⌝ }
+    ensures value { λ r. ⌜ r ≡ expOf x ⌝ }
+    ensures unit { λ r. ⌜ (T (le x zero32) → InUnit r) ⌝ }
 {
     let wide: f64 = std::num::f32_to_f64_with_nan(x);
     if wide < -104.0 {

@@ -4,12 +4,12 @@ use delay::RateModel;
 use gain::GainFit;
 use grid::Kept;
 use integrated::Fitted;
-use vectors::Tally;
+use vectors::Records;
 use vectors::double_at;
-use vectors::float_at;
 use vectors::is_at;
-use vectors::word_at;
-ghost use Prim.Native.Nat.{_≤_, _<_};
+use wire::read_float;
+use wire::read_word;
+ghost use Prim.Native.Nat.{_≤_};
 
 enum Kind {
     Poles,
@@ -22,7 +22,7 @@ enum Kind {
 fn count(s: &[u8]) -> usize
     ensures { λ r. ⌜ r ≤ 2048 ⌝ }
 {
-    let n = word_at(s, 0);
+    let n = read_word(s, 0);
     if n < 2048 { n as usize } else { 2048 }
 }
 
@@ -31,13 +31,13 @@ fn load(s: &[u8], first: usize, n: usize, values: &mut [f32; 2048])
     requires { ⌜ (first ≤ 100) × (n ≤ 2048) ⌝ }
 {
     for k in 0..n {
-        values[k] = float_at(s, first + k * 8);
+        values[k] = read_float(s, first + k * 8);
     }
 }
 
 // f dt_s, 129 f poles, carry as f64 bits.
 fn poles_agree(s: &[u8]) -> bool {
-    let dt_s = float_at(s, 0);
+    let dt_s = read_float(s, 0);
     for i in 0..129usize {
         if !is_at(lags::pole(dt_s, i), s, 4 + i * 4) {
             return false;
@@ -59,13 +59,13 @@ fn gain_agrees(s: &[u8]) -> bool {
         &lagged,
         n,
         double_at(s, 8),
-        word_at(s, 4) as usize,
+        read_word(s, 4) as usize,
         0.0,
     );
     let end = 16 + n * 8;
     match fit {
-        GainFit::Nothing => word_at(s, end) == 0,
-        GainFit::Fit(gain, residual) => (word_at(s, end) == 1)
+        GainFit::Nothing => read_word(s, end) == 0,
+        GainFit::Fit(gain, residual) => (read_word(s, end) == 1)
             & is_at(gain, s, end + 4)
             & is_at(residual, s, end + 8),
     }
@@ -76,8 +76,8 @@ fn is_kept(kept: Kept, s: &[u8], at: usize) -> bool
     requires { ⌜ at ≤ 20000 ⌝ }
 {
     match kept {
-        Kept::Empty => word_at(s, at) == 0,
-        Kept::Best(b) => (word_at(s, at) == 1)
+        Kept::Empty => read_word(s, at) == 0,
+        Kept::Best(b) => (read_word(s, at) == 1)
             & is_at(b.pole, s, at + 4)
             & is_at(b.low, s, at + 8)
             & is_at(b.high, s, at + 12)
@@ -96,7 +96,7 @@ fn grid_agrees(s: &[u8]) -> bool {
     let mut moments = [0.0f32; 2048];
     load(s, 8, n, &mut rates);
     load(s, 12, n, &mut moments);
-    let dt_s = float_at(s, 4);
+    let dt_s = read_float(s, 4);
     let carry = std::num::f32_to_f64_with_nan(lags::carry(dt_s));
     let mut cs = [0.0f64; 2048];
     let mut ts = [0.0f64; 2048];
@@ -117,9 +117,9 @@ fn is_model(m: RateModel, s: &[u8], at: usize) -> bool
     requires { ⌜ at ≤ 20000 ⌝ }
 {
     let d = m.delay;
-    (word_at(s, at) == 1)
-        & ((d.half_ticks as u64) == (word_at(s, at + 4) as u64) + 2)
-        & (d.whole_ticks() == word_at(s, at + 8))
+    (read_word(s, at) == 1)
+        & ((d.half_ticks as u64) == (read_word(s, at + 4) as u64) + 2)
+        & (d.whole_ticks() == read_word(s, at + 8))
         & is_at(m.r1, s, at + 12)
         & is_at(m.r2, s, at + 16)
         & is_at(m.m0, s, at + 20)
@@ -135,21 +135,19 @@ fn integrated_agrees(s: &[u8]) -> bool {
     let mut moments = [0.0f32; 2048];
     load(s, 8, n, &mut rates);
     load(s, 12, n, &mut moments);
-    let fit = integrated::fit_integrated(&rates, &moments, n, float_at(s, 4));
+    let fit = integrated::fit_integrated(&rates, &moments, n, read_float(s, 4));
     let end = 8 + n * 8;
-    if fit.gain_fits != word_at(s, end + 36) {
+    if fit.gain_fits != read_word(s, end + 36) {
         return false;
     }
     let fitted = fit.fitted;
     match fitted {
-        Fitted::Nothing => word_at(s, end) == 0,
+        Fitted::Nothing => read_word(s, end) == 0,
         Fitted::Model(m) => is_model(m, s, end),
     }
 }
 
-fn record_size(k: Kind, s: &[u8]) -> usize
-    ensures { λ r. ⌜ (0 < r) × (r ≤ 20000) ⌝ }
-{
+fn record_size(k: Kind, s: &[u8]) -> usize {
     match k {
         Kind::Poles => 528,
         Kind::Gain => 28 + count(s) * 8,
@@ -167,26 +165,20 @@ fn agrees(k: Kind, s: &[u8]) -> bool {
     }
 }
 
-fn replayed(k: Kind, s: &[u8]) -> Tally {
-    let mut at = 0;
-    let mut tally = Tally::new();
-    while at < s.len() {
-        let rest = &s[at..];
-        let size = record_size(k, rest);
-        if s.len() - at < size {
-            return tally;
-        }
-        tally = tally.with(agrees(k, rest));
-        at += size;
+fn replayed(k: Kind, s: &[u8], file: Records) -> Records {
+    let mut records = file;
+    while 0 < records.left {
+        let record = vectors::rest(s, records.left);
+        records = records.with(record_size(k, record), agrees(k, record));
     }
-    tally
+    records
 }
 
-// A file holds at most 196,608 bytes.
 fn replay(k: Kind, name: &[u8], path: &[u8]) {
-    let mut buffer = [0u8; 196608];
-    let n = vectors::read_file(path, &mut buffer);
-    replayed(k, &buffer[..n]).print(name);
+    let mut buffer = vectors::buffer();
+    let file = Records::read(path, &mut buffer);
+    let n = file.left;
+    replayed(k, &buffer[..n], file).print(name, path);
 }
 
 fn main() {

@@ -2,22 +2,19 @@
 // each file agree to the last bit. A file is a run of big-endian 32-bit words, as host/README.md lays them out; an expected NaN is 7FC00000.
 use delay::Entry;
 use delay::Position;
-use least_squares::Solution;
 use least_squares::Solved;
 use least_squares::Sums;
 use recorded::Classified;
 use recorded::RecordedFit;
-use vectors::Read;
-use vectors::Tally;
-use vectors::next_float;
-use vectors::next_word;
+use vectors::Records;
+use vectors::is_at;
+use vectors::part;
 use vectors::same;
+use wire::read_float;
+use wire::read_word;
 ghost use Prim.Native.Nat.{_≤_};
 
-// More records than any file has.
-const MOST: u64 = 10000;
-
-enum File {
+enum Kind {
     Ties,
     Solve,
     Sums,
@@ -37,20 +34,16 @@ fn entry(mask: u32, k: u32, effect: f32, residual: f32) -> Entry {
     Entry::Fit(effect, residual)
 }
 
-// A list has 21 entries, of which the rule reads 20.
-fn tie_agrees(fd: i32, first: u32) -> bool {
-    let share = float::from_word(first);
-    let mask = next_word(fd);
+// f share, w mask, 21 entries of f effect and f residual, of which the rule reads 20; w position, 0 for none.
+fn tie_agrees(s: &[u8]) -> bool {
+    let mask = read_word(s, 4);
     let mut entries = [Entry::Missing; 20];
-    for k in 0..20 {
-        let effect = next_float(fd);
-        let residual = next_float(fd);
-        entries[k] = entry(mask, k as u32, effect, residual);
+    for k in 0..20usize {
+        let at = 8 + k * 8;
+        entries[k] = entry(mask, k as u32, read_float(s, at), read_float(s, at + 4));
     }
-    next_float(fd);
-    next_float(fd);
-    let expected = next_word(fd) as usize;
-    match delay::delay_to_fit(entries, share) {
+    let expected = read_word(s, 176) as usize;
+    match delay::delay_to_fit(entries, read_float(s, 0)) {
         Position::Nowhere => expected == 0,
         Position::At(p) => expected == p,
     }
@@ -58,21 +51,20 @@ fn tie_agrees(fd: i32, first: u32) -> bool {
 
 // ---- sums and their solution
 
-// Sums whose first word has been read.
-fn sums(fd: i32, first: u32) -> Sums {
+// 36 f normal, 6 f projected, f target squared.
+fn sums(s: &[u8]) -> Sums {
     let mut normal = [0.0f32; 36];
-    normal[0] = float::from_word(first);
-    for n in 1..36 {
-        normal[n] = next_float(fd);
+    for n in 0..36usize {
+        normal[n] = read_float(s, n * 4);
     }
     let mut projected = [0.0f32; 6];
-    for i in 0..6 {
-        projected[i] = next_float(fd);
+    for i in 0..6usize {
+        projected[i] = read_float(s, 144 + i * 4);
     }
     Sums {
         normal: normal,
         projected: projected,
-        target_squared: next_float(fd),
+        target_squared: read_float(s, 168),
     }
 }
 
@@ -87,41 +79,34 @@ fn same_sums(a: Sums, b: Sums) -> bool {
     ok
 }
 
-fn solve_agrees(fd: i32, first: u32) -> bool {
-    let solved = sums(fd, first).solve();
-    let fits = next_word(fd);
-    let expected = Solution {
-        c0: next_float(fd),
-        c1: next_float(fd),
-        c2: next_float(fd),
-        c3: next_float(fd),
-        c4: next_float(fd),
-        c5: next_float(fd),
-        residual: next_float(fd),
-    };
-    match solved {
-        Solved::NoFit => fits == 0,
-        Solved::Fit(s) => (fits == 1)
-            & same(s.c0, expected.c0)
-            & same(s.c1, expected.c1)
-            & same(s.c2, expected.c2)
-            & same(s.c3, expected.c3)
-            & same(s.c4, expected.c4)
-            & same(s.c5, expected.c5)
-            & same(s.residual, expected.residual),
+// The sums; w 1 for a fit, else 0; six f coefficients, f residual.
+fn solve_agrees(s: &[u8]) -> bool {
+    match sums(s).solve() {
+        Solved::NoFit => read_word(s, 172) == 0,
+        Solved::Fit(f) => (read_word(s, 172) == 1)
+            & is_at(f.c0, s, 176)
+            & is_at(f.c1, s, 180)
+            & is_at(f.c2, s, 184)
+            & is_at(f.c3, s, 188)
+            & is_at(f.c4, s, 192)
+            & is_at(f.c5, s, 196)
+            & is_at(f.residual, s, 200),
     }
 }
 
 // ---- windows
 
-fn stored(w: u32) -> usize
+// The count that a record of a window begins with, at most what a window holds.
+fn stored(s: &[u8]) -> usize
     ensures { λ r. ⌜ r ≤ 2048 ⌝ }
 {
-    if w < 2048 { w as usize } else { 2048 }
+    let n = read_word(s, 0);
+    if n < 2048 { n as usize } else { 2048 }
 }
 
+// w stored; each f rate, f moment, w mark.
 fn read_window(
-    fd: i32,
+    s: &[u8],
     n: usize,
     rates: &mut [f32; 2048],
     moments: &mut [f32; 2048],
@@ -130,24 +115,25 @@ fn read_window(
     requires { ⌜ n ≤ 2048 ⌝ }
 {
     for k in 0..n {
-        rates[k] = next_float(fd);
-        moments[k] = next_float(fd);
-        held[k] = next_word(fd) == 1;
+        let at = 4 + k * 12;
+        rates[k] = read_float(s, at);
+        moments[k] = read_float(s, at + 4);
+        held[k] = read_word(s, at + 8) == 1;
     }
 }
 
-// The sums of each delay, by itself and from the shared ones.
-fn sums_agree(fd: i32, first: u32) -> bool {
-    let n = stored(first);
+// A window, w rows; the sums of each of ten delays, which are held to those made for it alone and from the shared ones.
+fn sums_agree(s: &[u8]) -> bool {
+    let n = stored(s);
     let mut rates = [0.0f32; 2048];
     let mut moments = [0.0f32; 2048];
     let mut held = [false; 2048];
-    read_window(fd, n, &mut rates, &mut moments, &mut held);
-    next_word(fd);
+    read_window(s, n, &mut rates, &mut moments, &mut held);
     let shared = shared_sums::sum_shared(&rates, &moments, &held, n);
+    let answers = part(s, 8 + n * 12, 1720);
     let mut ok = true;
     for k in 0..10 {
-        let expected = sums(fd, next_word(fd));
+        let expected = sums(part(answers, k * 172, 172));
         let alone = rows::add_window(&rates, &moments, &held, n, k + 1, rows::no_sums());
         ok = ok & same_sums(alone, expected);
         ok = ok & same_sums(shared_sums::delay_sums(shared, k + 1), expected);
@@ -164,71 +150,76 @@ fn class_number(c: Classified) -> u32 {
     }
 }
 
-fn fit_agrees(fd: i32, fit: RecordedFit) -> bool {
-    let fits = next_word(fd);
-    let d = next_word(fd);
-    let r1 = next_float(fd);
-    let r2 = next_float(fd);
-    let m0 = next_float(fd);
-    let m1 = next_float(fd);
-    let m2 = next_float(fd);
-    let dt_s = next_float(fd);
-    let rms = next_float(fd);
+// w 1 for a fit, else 0; w d; f two rate weights, three moment weights, dt_s, rms.
+fn fit_agrees(fit: RecordedFit, s: &[u8]) -> bool {
     match fit {
-        RecordedFit::NoFit => fits == 0,
-        RecordedFit::Fit(m, r) => (fits == 1)
-            & (m.delay.whole_ticks() == d)
+        RecordedFit::NoFit => read_word(s, 0) == 0,
+        RecordedFit::Fit(m, r) => (read_word(s, 0) == 1)
+            & (m.delay.whole_ticks() == read_word(s, 4))
             & (m.delay.half_tick() == 0)
-            & same(m.r1, r1)
-            & same(m.r2, r2)
-            & same(m.m0, m0)
-            & same(m.m1, m1)
-            & same(m.m2, m2)
-            & same(m.dt_s, dt_s)
-            & same(r, rms),
+            & is_at(m.r1, s, 8)
+            & is_at(m.r2, s, 12)
+            & is_at(m.m0, s, 16)
+            & is_at(m.m1, s, 20)
+            & is_at(m.m2, s, 24)
+            & is_at(m.dt_s, s, 28)
+            & is_at(r, s, 32),
     }
 }
 
-fn recorded_agrees(fd: i32, first: u32) -> bool {
-    let n = stored(first);
+// A window, f window duration; the fit; w class.
+fn recorded_agrees(s: &[u8]) -> bool {
+    let n = stored(s);
     let mut rates = [0.0f32; 2048];
     let mut moments = [0.0f32; 2048];
     let mut held = [false; 2048];
-    read_window(fd, n, &mut rates, &mut moments, &mut held);
-    let duration_s = next_float(fd);
+    read_window(s, n, &mut rates, &mut moments, &mut held);
+    let duration_s = read_float(s, 4 + n * 12);
     let fit = recorded::fit_recorded(&rates, &moments, &held, n, duration_s);
     let class = recorded::classify(&rates, &moments, &held, n, duration_s);
-    let agrees = fit_agrees(fd, fit);
-    agrees & (class_number(class) == next_word(fd))
+    let answers = part(s, 8 + n * 12, 40);
+    fit_agrees(fit, answers) & (class_number(class) == read_word(answers, 36))
 }
 
 // ---- files
 
-fn agrees(file: File, fd: i32, first: u32) -> bool {
-    match file {
-        File::Ties => tie_agrees(fd, first),
-        File::Solve => solve_agrees(fd, first),
-        File::Sums => sums_agree(fd, first),
-        File::Recorded => recorded_agrees(fd, first),
+fn record_size(k: Kind, s: &[u8]) -> usize {
+    match k {
+        Kind::Ties => 180,
+        Kind::Solve => 204,
+        Kind::Sums => 1728 + stored(s) * 12,
+        Kind::Recorded => 48 + stored(s) * 12,
     }
 }
 
-fn replay(file: File, name: &[u8], path: &[u8]) {
-    let fd = vectors::open(path);
-    let mut tally = Tally::new();
-    for _ in 0..MOST {
-        let Read::Word(first) = vectors::read_word(fd) else {
-            break;
-        };
-        tally = tally.with(agrees(file, fd, first));
+fn agrees(k: Kind, s: &[u8]) -> bool {
+    match k {
+        Kind::Ties => tie_agrees(s),
+        Kind::Solve => solve_agrees(s),
+        Kind::Sums => sums_agree(s),
+        Kind::Recorded => recorded_agrees(s),
     }
-    libc::close(fd);
-    tally.print(name);
+}
+
+fn replayed(k: Kind, s: &[u8], file: Records) -> Records {
+    let mut records = file;
+    while 0 < records.left {
+        let record = vectors::rest(s, records.left);
+        records = records.with(record_size(k, record), agrees(k, record));
+    }
+    records
+}
+
+fn replay(k: Kind, name: &[u8], path: &[u8]) {
+    let mut buffer = vectors::buffer();
+    let file = Records::read(path, &mut buffer);
+    let n = file.left;
+    replayed(k, &buffer[..n], file).print(name, path);
 }
 
 fn main() {
-    replay(File::Ties, b"tie rule", b"ties.bin");
-    replay(File::Solve, b"least squares", b"solve.bin");
-    replay(File::Sums, b"sums of each delay", b"sums.bin");
-    replay(File::Recorded, b"recorded fit and class", b"recorded.bin");
+    replay(Kind::Ties, b"tie rule", b"ties.bin");
+    replay(Kind::Solve, b"least squares", b"solve.bin");
+    replay(Kind::Sums, b"sums of each delay", b"sums.bin");
+    replay(Kind::Recorded, b"recorded fit and class", b"recorded.bin");
 }

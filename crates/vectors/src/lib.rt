@@ -1,50 +1,23 @@
-// What the programs that replay vectors share: the words of a record, and the line that tells how many records agree.
+// What the programs that replay vectors share: the words of a record, the records of a file, and the line that tells how many agree.
 // Words are big-endian. An expected NaN is 7FC00000, and as an f64 7FF80000 00000000.
 use libc::STDOUT_FILENO;
 ghost use mathlib.Core.Path.{_≡_};
-ghost use Prim.Native.Nat.{_+_, _*_, _%_, _^_, _≤_, _<_};
+ghost use Prim.Native.Nat.{_+_, _-_, _≤_};
 ghost use lib.ListN.{length};
 ghost use lib.Dec.{eqb};
 ghost use lib.Ieee.{binary32, binary64, ofBits, toBits};
 ghost use Rattle.io.specs.Counts.{Counts};
-ghost use Rattle.wire.specs.Words.{wordAt, floatAt};
+ghost use Rattle.wire.specs.Words.{wordAt};
 ghost use Rattle.vectors.specs.Words.{flagOf, doubleBitsAt};
+ghost use Rattle.vectors.specs.Records.{tornOf, nextOf};
 
-// ---- words of a record that lies in a slice
-
-// The word of four bytes, the most significant first.
-fn joined(a: u8, b: u8, c: u8, d: u8) -> u32
-    ensures { λ r. ⌜ r ≡ ((a * 256 + b) * 256 + c) * 256 + d ⌝ }
-{
-    (((a as u32) * 256 + (b as u32)) * 256 + (c as u32)) * 256 + (d as u32)
-}
-
-// The word at a place; 0 where fewer than four bytes are left.
-pub fn word_at(s: &[u8], at: usize) -> u32
-    ensures read { λ r. ⌜ (at + 4 ≤ length (now (s .entry)) → r ≡ wordAt (now (s .entry)) at) ⌝ }
-    ensures past { λ r. ⌜ (length (now (s .entry)) < at + 4 → r ≡ 0) ⌝ }
-{
-    if s.len() < 4 {
-        return 0;
-    }
-    if s.len() - 4 < at {
-        return 0;
-    }
-    joined(s[at], s[at + 1], s[at + 2], s[at + 3])
-}
-
-// The float at a place; every NaN pattern gives NaN.
-pub fn float_at(s: &[u8], at: usize) -> f32
-    ensures { λ r. ⌜ (at + 4 ≤ length (now (s .entry)) → r ≡ floatAt (now (s .entry)) at) ⌝ }
-{
-    float::from_word(word_at(s, at))
-}
+// ---- words of a record
 
 // Whether a float is the one at a place, bit for bit.
 pub fn is_at(x: f32, s: &[u8], at: usize) -> bool
-    ensures { λ r. ⌜ (at + 4 ≤ length (now (s .entry)) → r ≡ eqb (toBits binary32 x) (wordAt (now (s .entry)) at)) ⌝ }
+    ensures { λ r. ⌜ r ≡ eqb (toBits binary32 x) (wordAt (now (s .entry)) at) ⌝ }
 {
-    float::to_word(x) == word_at(s, at)
+    float::to_word(x) == wire::read_word(s, at)
 }
 
 // The bits of the f64 at a place, the high word first; 0 where fewer than eight bytes are left.
@@ -57,7 +30,7 @@ fn double_bits_at(s: &[u8], at: usize) -> u64
     if s.len() - 8 < at {
         return 0;
     }
-    (word_at(s, at) as u64) * 0x1_0000_0000 + (word_at(s, at + 4) as u64)
+    (wire::read_word(s, at) as u64) * 0x1_0000_0000 + (wire::read_word(s, at + 4) as u64)
 }
 
 // The f64 of a bit pattern; every NaN pattern gives NaN.
@@ -94,35 +67,6 @@ pub fn double_is_at(x: f64, s: &[u8], at: usize) -> bool
     double_bits(x) == double_bits_at(s, at)
 }
 
-// ---- words of a record that is read as it is replayed
-
-// What is left of a file: nothing, or a word and what follows it.
-pub enum Read {
-    End,
-    Word(u32),
-}
-
-pub fn read_word(fd: i32) -> Read {
-    let mut b = [0u8; 4];
-    if io::read_full(fd, &mut b) < 4 {
-        return Read::End;
-    }
-    Read::Word(joined(b[0], b[1], b[2], b[3]))
-}
-
-// The next word; 0 at the end.
-pub fn next_word(fd: i32) -> u32 {
-    match read_word(fd) {
-        Read::End => 0,
-        Read::Word(w) => w,
-    }
-}
-
-// The next float; 0 at the end.
-pub fn next_float(fd: i32) -> f32 {
-    float::from_word(next_word(fd))
-}
-
 // ---- answers
 
 // Whether two floats are the same, bit for bit; a NaN is the same as a NaN.
@@ -139,62 +83,124 @@ pub fn flag(b: bool) -> u32
     if b { 1 } else { 0 }
 }
 
-// ---- files
+// ---- the records of a file
 
-// Opens a file to read. Where that fails a line to standard error says so, and nothing is read from what is answered.
-pub fn open(path: &[u8]) -> i32 {
-    let fd = os::open_read(path);
-    if fd < 0 {
-        os::fail(path);
-    }
-    fd
-}
-
-// Reads a file to the start of a buffer, as much as the buffer holds, and answers how many bytes that is: 0 where it cannot be opened.
-pub fn read_file(path: &[u8], buffer: &mut [u8]) -> usize
-    ensures { λ r. ⌜ Counts r (now (buffer .exit)) ⌝ }
-{
-    let fd = open(path);
-    let n = io::read_full(fd, buffer);
-    libc::close(fd);
-    n
-}
-
-// ---- the count of those that agree
-
-pub struct Tally {
+// A file as it is replayed: how many of its bytes are left, and how many of the records before them agree. A file is whole
+// where it has records, all of it fits the buffer, and its last record has all of its bytes.
+pub struct Records {
+    found: bool,
+    whole: bool,
+    pub left: usize,
     records: u64,
     agree: u64,
 }
 
-impl Tally {
-    pub fn new() -> Tally
-        ensures { λ r. ⌜ (r .records ≡ 0) × (r .agree ≡ 0) ⌝ }
+// Zeros, for a file of less than 786,432 bytes.
+pub fn buffer() -> [u8; 786432]
+    ensures { λ r. ⌜ 786432 ≡ length r ⌝ }
+{
+    [0; 786432]
+}
+
+impl Records {
+    // Reads a file to the start of a buffer.
+    pub fn read(path: &[u8], buffer: &mut [u8]) -> Records
+        ensures { λ r. ⌜ Counts (r .left) (now (buffer .exit)) ⌝ }
     {
-        Tally {
+        let fd = os::open_read(path);
+        let n = io::read_full(fd, buffer);
+        libc::close(fd);
+        Records {
+            found: 0 <= fd,
+            whole: (0 < n) & (n < buffer.len()),
+            left: n,
             records: 0,
             agree: 0,
         }
     }
 
-    // With one record more. The counts are modulo 2^64.
-    pub fn with(self, agreed: bool) -> Tally
-        ensures records { λ r. ⌜ r .records ≡ (self .records + 1) % 2 ^ 64 ⌝ }
-        ensures agree { λ r. ⌜ r .agree ≡ (self .agree + flagOf agreed) % 2 ^ 64 ⌝ }
+    // With the next record replayed, of `size` bytes. One that has no bytes, or more than are left, ends the replay.
+    // The counts are modulo 2^64.
+    pub fn with(self, size: usize, agreed: bool) -> Records
+        ensures next { λ r. ⌜ r ≡ nextOf self size agreed ⌝ }
+        ensures less { λ r. ⌜ r .left ≤ self .left - 1 ⌝ }
     {
-        Tally {
+        if size == 0 {
+            return self.torn();
+        }
+        if self.left < size {
+            return self.torn();
+        }
+        Records {
+            found: self.found,
+            whole: self.whole,
+            left: self.left - size,
             records: std::num::wrapping_add_u64(self.records, 1),
             agree: std::num::wrapping_add_u64(self.agree, flag(agreed) as u64),
         }
     }
 
-    // Writes the line `NAME: A of N agree`.
-    pub fn print(self, name: &[u8]) {
+    fn torn(self) -> Records
+        ensures { λ r. ⌜ (r ≡ tornOf self) × (r .left ≡ 0) ⌝ }
+    {
+        Records {
+            found: self.found,
+            whole: false,
+            left: 0,
+            records: self.records,
+            agree: self.agree,
+        }
+    }
+
+    // Writes the line `NAME: A of N agree`, or what is wrong with the file.
+    pub fn print(self, name: &[u8], path: &[u8]) {
         io::write_all(STDOUT_FILENO, name);
         io::write_all(STDOUT_FILENO, b": ");
+        if !self.found {
+            io::write_all(STDOUT_FILENO, path);
+            io::write_all(STDOUT_FILENO, b" is missing\n");
+            return;
+        }
+        if !self.whole {
+            io::write_all(STDOUT_FILENO, path);
+            io::write_all(STDOUT_FILENO, b" is not whole\n");
+            return;
+        }
         io::print_decimal(STDOUT_FILENO, self.agree);
         io::write_all(STDOUT_FILENO, b" of ");
         io::print_decimal(STDOUT_FILENO, self.records);
         io::write_all(STDOUT_FILENO, b" agree\n");
     }
+}
+
+// The last n bytes, from the next record on; all where there are fewer.
+pub fn rest(s: &[u8], n: usize) -> &[u8] {
+    if s.len() < n {
+        return s;
+    }
+    let at = s.len() - n;
+    &s[at..]
+}
+
+// The bytes from a place on; none past the end.
+fn after(s: &[u8], at: usize) -> &[u8] {
+    if s.len() < at {
+        let end = s.len();
+        return &s[end..];
+    }
+    &s[at..]
+}
+
+// The first n bytes; all where there are fewer.
+fn first(s: &[u8], n: usize) -> &[u8] {
+    if s.len() < n {
+        return s;
+    }
+    let start = 0;
+    &s[start..n]
+}
+
+// The n bytes at a place; fewer where the slice ends before.
+pub fn part(s: &[u8], at: usize, n: usize) -> &[u8] {
+    first(after(s, at), n)
 }

@@ -2,13 +2,13 @@
 // The data are the reference's answers, written by the command in host/README.md with seed 1; window_patterns.bin has every
 // pattern of good and bad readings up to length 14. Words are big-endian.
 use counting::Counts;
-use vectors::Tally;
+use vectors::Records;
 use vectors::flag;
-use vectors::float_at;
 use vectors::is_at;
-use vectors::word_at;
 use window::Window;
-ghost use Prim.Native.Nat.{_≤_, _<_};
+use wire::read_float;
+use wire::read_word;
+ghost use Prim.Native.Nat.{_≤_};
 
 enum Kind {
     Patterns,
@@ -99,7 +99,7 @@ fn around_agrees(s: &[u8]) -> bool {
 fn tick_count(s: &[u8]) -> usize
     ensures { λ r. ⌜ r ≤ 4096 ⌝ }
 {
-    let n = word_at(s, 0);
+    let n = read_word(s, 0);
     if n < 4096 { n as usize } else { 4096 }
 }
 
@@ -126,7 +126,7 @@ fn samples_agree(
         let agree = is_at(rates[k], s, here)
             & is_at(moments[k], s, here + 4)
             & is_at(offsets[k], s, here + 8)
-            & (flag(held[k]) == word_at(s, here + 12));
+            & (flag(held[k]) == read_word(s, here + 12));
         if !agree {
             return false;
         }
@@ -139,10 +139,10 @@ fn totals_agree(w: Window, held: &[bool; 2048], s: &[u8], at: usize) -> bool
     requires { ⌜ at ≤ 100000 ⌝ }
 {
     let c = counting::count_ticks(w, held);
-    (stored(w) == (word_at(s, at) as usize))
-        & (c.held == (word_at(s, at + 4) as usize))
-        & (c.warm == (word_at(s, at + 8) as usize))
-        & (c.rows == (word_at(s, at + 12) as usize))
+    (stored(w) == (read_word(s, at) as usize))
+        & (c.held == (read_word(s, at + 4) as usize))
+        & (c.warm == (read_word(s, at + 8) as usize))
+        & (c.rows == (read_word(s, at + 12) as usize))
         & is_at(w.duration_s, s, at + 16)
 }
 
@@ -162,10 +162,10 @@ fn recording_agrees(s: &[u8]) -> bool {
             &mut moments,
             &mut offsets,
             &mut held,
-            float_at(s, at),
-            float_at(s, at + 4),
-            float_at(s, at + 8),
-            float_at(s, at + 12),
+            read_float(s, at),
+            read_float(s, at + 4),
+            read_float(s, at + 8),
+            read_float(s, at + 12),
         );
     }
     let end = 4 + ticks * 16;
@@ -174,11 +174,9 @@ fn recording_agrees(s: &[u8]) -> bool {
 }
 
 // The bytes of a recording: its ticks, five words, its stored samples.
-fn recording_size(s: &[u8]) -> usize
-    ensures { λ r. ⌜ (0 < r) × (r ≤ 200000) ⌝ }
-{
+fn recording_size(s: &[u8]) -> usize {
     let end = 4 + tick_count(s) * 16;
-    let stored = word_at(s, end);
+    let stored = read_word(s, end);
     if stored < 2048 {
         end + 20 + (stored as usize) * 16
     } else {
@@ -188,9 +186,7 @@ fn recording_size(s: &[u8]) -> usize
 
 // ---- files
 
-fn record_size(k: Kind, s: &[u8]) -> usize
-    ensures { λ r. ⌜ (0 < r) × (r ≤ 200000) ⌝ }
-{
+fn record_size(k: Kind, s: &[u8]) -> usize {
     match k {
         Kind::Patterns => 6,
         Kind::Around => 8,
@@ -206,26 +202,20 @@ fn agrees(k: Kind, s: &[u8]) -> bool {
     }
 }
 
-fn replayed(k: Kind, s: &[u8]) -> Tally {
-    let mut at = 0;
-    let mut tally = Tally::new();
-    while at < s.len() {
-        let rest = &s[at..];
-        let size = record_size(k, rest);
-        if s.len() - at < size {
-            return tally;
-        }
-        tally = tally.with(agrees(k, rest));
-        at += size;
+fn replayed(k: Kind, s: &[u8], file: Records) -> Records {
+    let mut records = file;
+    while 0 < records.left {
+        let record = vectors::rest(s, records.left);
+        records = records.with(record_size(k, record), agrees(k, record));
     }
-    tally
+    records
 }
 
-// A file holds at most 196,608 bytes.
 fn replay(k: Kind, name: &[u8], path: &[u8]) {
-    let mut buffer = [0u8; 196608];
-    let n = vectors::read_file(path, &mut buffer);
-    replayed(k, &buffer[..n]).print(name);
+    let mut buffer = vectors::buffer();
+    let file = Records::read(path, &mut buffer);
+    let n = file.left;
+    replayed(k, &buffer[..n], file).print(name, path);
 }
 
 fn main() {

@@ -42,6 +42,12 @@ enum What {
 }
 
 fn main() -> ExitCode {
+    if float::HARDWARE_ROOT {
+        eprintln!(
+            "differential: built together with bench, with the machine's root: build it by -p"
+        );
+        return ExitCode::from(2);
+    }
     let options = match options() {
         Ok(options) => options,
         Err(message) => {

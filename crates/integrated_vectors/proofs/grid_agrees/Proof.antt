@@ -22,8 +22,8 @@ load-requires c κs = search needs
 load-requires-2 : tie.Need-load-requires-2 Inv-loop μ-loop
 load-requires-2 c κs = search needs
 
-float-at-requires : tie.Need-float-at-requires Inv-loop μ-loop
-float-at-requires c κs = search needs
+read-float-requires : tie.Need-read-float-requires Inv-loop μ-loop
+read-float-requires c κs = search needs
 
 carry-requires : tie.Need-carry-requires Inv-loop μ-loop
 carry-requires c κs = search needs
@@ -86,7 +86,7 @@ grid-agrees-spec =
     returns
     load-requires
     load-requires-2
-    float-at-requires
+    read-float-requires
     carry-requires
     f32-to-f64-with-nan-requires
     prepare-requires

@@ -13,14 +13,14 @@ abbrev μ-loop : tie.MeasureT-loop
 loop-holds : tie.Need-loop-holds Inv-loop μ-loop
 loop-holds c = search needs
 
-mul-float-at : tie.Need-mul-float-at Inv-loop μ-loop
-mul-float-at c = search needs
+mul-read-float : tie.Need-mul-read-float Inv-loop μ-loop
+mul-read-float c = search needs
 
-add-float-at : tie.Need-add-float-at Inv-loop μ-loop
-add-float-at c = search needs
+add-read-float : tie.Need-add-read-float Inv-loop μ-loop
+add-read-float c = search needs
 
-float-at-requires : tie.Need-float-at-requires Inv-loop μ-loop
-float-at-requires c κs = search needs
+read-float-requires : tie.Need-read-float-requires Inv-loop μ-loop
+read-float-requires c κs = search needs
 
 mul-values : tie.Need-mul-values Inv-loop μ-loop
 mul-values c = search needs
@@ -47,9 +47,9 @@ load-spec =
     Inv-loop
     μ-loop
     loop-holds
-    mul-float-at
-    add-float-at
-    float-at-requires
+    mul-read-float
+    add-read-float
+    read-float-requires
     mul-values
     element-write-values
     add-k

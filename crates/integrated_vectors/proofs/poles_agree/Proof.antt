@@ -10,8 +10,8 @@ Inv-loop s dt-s i₀ i = i ≤ 129
 abbrev μ-loop : tie.MeasureT-loop
 μ-loop s dt-s i₀ i = 129 - i
 
-float-at-requires : tie.Need-float-at-requires Inv-loop μ-loop
-float-at-requires c κs = search needs
+read-float-requires : tie.Need-read-float-requires Inv-loop μ-loop
+read-float-requires c κs = search needs
 
 loop-holds : tie.Need-loop-holds Inv-loop μ-loop
 loop-holds c = search needs
@@ -58,7 +58,7 @@ poles-agree-spec =
     (tie.spec
     Inv-loop
     μ-loop
-    float-at-requires
+    read-float-requires
     loop-holds
     pole-requires
     mul-is-at

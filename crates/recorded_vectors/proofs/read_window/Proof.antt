@@ -1,20 +1,26 @@
--- `recorded_vectors::read_window` is safe and ends: each loop's counter stays within its range, which is the measure.
+-- The loop's counter stays within its range, and what is left of the range is the measure.
 use Prim.Native.Nat.{_≤_, _-_}
 use borrow.Author.Needs.{needs}
 use Rattle.recorded_vectors.proofs.read_window.Statement.{statement}
 use Rattle.recorded_vectors.proofs.read_window.Tie as tie
 
 abbrev Inv-loop : tie.InvT-loop
-Inv-loop fd n rates₀ moments₀ held₀ k₀ rates moments held k = k ≤ n
+Inv-loop s n rates₀ moments₀ held₀ k₀ rates moments held k = k ≤ n
 
 abbrev μ-loop : tie.MeasureT-loop
-μ-loop fd n rates₀ moments₀ held₀ k₀ rates moments held k = n - k
+μ-loop s n rates₀ moments₀ held₀ k₀ rates moments held k = n - k
 
 loop-holds : tie.Need-loop-holds Inv-loop μ-loop
 loop-holds c = search needs
 
-next-float-requires : tie.Need-next-float-requires Inv-loop μ-loop
-next-float-requires c κs = search needs
+mul-at : tie.Need-mul-at Inv-loop μ-loop
+mul-at c = search needs
+
+add-at : tie.Need-add-at Inv-loop μ-loop
+add-at c = search needs
+
+read-float-requires : tie.Need-read-float-requires Inv-loop μ-loop
+read-float-requires c κs = search needs
 
 mul-rates : tie.Need-mul-rates Inv-loop μ-loop
 mul-rates c = search needs
@@ -22,8 +28,11 @@ mul-rates c = search needs
 element-write-rates : tie.Need-element-write-rates Inv-loop μ-loop
 element-write-rates c = search needs
 
-next-float-requires-2 : tie.Need-next-float-requires-2 Inv-loop μ-loop
-next-float-requires-2 c κs = search needs
+add-read-float : tie.Need-add-read-float Inv-loop μ-loop
+add-read-float c = search needs
+
+read-float-requires-2 : tie.Need-read-float-requires-2 Inv-loop μ-loop
+read-float-requires-2 c κs = search needs
 
 mul-moments : tie.Need-mul-moments Inv-loop μ-loop
 mul-moments c = search needs
@@ -31,8 +40,11 @@ mul-moments c = search needs
 element-write-moments : tie.Need-element-write-moments Inv-loop μ-loop
 element-write-moments c = search needs
 
-next-word-requires : tie.Need-next-word-requires Inv-loop μ-loop
-next-word-requires c κs = search needs
+add-read-word : tie.Need-add-read-word Inv-loop μ-loop
+add-read-word c = search needs
+
+read-word-requires : tie.Need-read-word-requires Inv-loop μ-loop
+read-word-requires c κs = search needs
 
 element-write-held : tie.Need-element-write-held Inv-loop μ-loop
 element-write-held c = search needs
@@ -56,13 +68,17 @@ read-window-spec =
     Inv-loop
     μ-loop
     loop-holds
-    next-float-requires
+    mul-at
+    add-at
+    read-float-requires
     mul-rates
     element-write-rates
-    next-float-requires-2
+    add-read-float
+    read-float-requires-2
     mul-moments
     element-write-moments
-    next-word-requires
+    add-read-word
+    read-word-requires
     element-write-held
     add-k
     loop-less

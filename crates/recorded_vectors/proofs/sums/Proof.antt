@@ -1,38 +1,35 @@
--- `recorded_vectors::sums` is safe and ends: each loop's counter stays within its range, which is the measure.
+-- Each loop's counter stays within its range, and what is left of the range is the measure.
 use Prim.Native.Nat.{_≤_, _-_}
 use borrow.Author.Needs.{needs}
 use Rattle.recorded_vectors.proofs.sums.Statement.{statement}
 use Rattle.recorded_vectors.proofs.sums.Tie as tie
 
 abbrev Inv-loop : tie.InvT-loop
-Inv-loop fd first normal₀ n₀ normal n = n ≤ 36
+Inv-loop s normal₀ n₀ normal n = n ≤ 36
 
 abbrev μ-loop : tie.MeasureT-loop
-μ-loop fd first normal₀ n₀ normal n = 36 - n
+μ-loop s normal₀ n₀ normal n = 36 - n
 
 abbrev Inv-loop2 : tie.InvT-loop2
-Inv-loop2 fd first normal projected₀ i₀ projected i = i ≤ 6
+Inv-loop2 s normal projected₀ i₀ projected i = i ≤ 6
 
 abbrev μ-loop2 : tie.MeasureT-loop2
-μ-loop2 fd first normal projected₀ i₀ projected i = 6 - i
-
-from-word-requires : tie.Need-from-word-requires Inv-loop μ-loop Inv-loop2 μ-loop2
-from-word-requires c κs = search needs
-
-array-write-normal : tie.Need-array-write-normal Inv-loop μ-loop Inv-loop2 μ-loop2
-array-write-normal c = search needs
+μ-loop2 s normal projected₀ i₀ projected i = 6 - i
 
 loop-holds : tie.Need-loop-holds Inv-loop μ-loop Inv-loop2 μ-loop2
 loop-holds c = search needs
 
-next-float-requires : tie.Need-next-float-requires Inv-loop μ-loop Inv-loop2 μ-loop2
-next-float-requires c κs = search needs
+mul-read-float : tie.Need-mul-read-float Inv-loop μ-loop Inv-loop2 μ-loop2
+mul-read-float c = search needs
+
+read-float-requires : tie.Need-read-float-requires Inv-loop μ-loop Inv-loop2 μ-loop2
+read-float-requires c κs = search needs
 
 mul-normal : tie.Need-mul-normal Inv-loop μ-loop Inv-loop2 μ-loop2
 mul-normal c = search needs
 
-array-write-normal-2 : tie.Need-array-write-normal-2 Inv-loop μ-loop Inv-loop2 μ-loop2
-array-write-normal-2 c = search needs
+array-write-normal : tie.Need-array-write-normal Inv-loop μ-loop Inv-loop2 μ-loop2
+array-write-normal c = search needs
 
 add-n : tie.Need-add-n Inv-loop μ-loop Inv-loop2 μ-loop2
 add-n c = search needs
@@ -46,8 +43,14 @@ loop-again c = search needs
 loop2-holds : tie.Need-loop2-holds Inv-loop μ-loop Inv-loop2 μ-loop2
 loop2-holds c = search needs
 
-next-float-requires-2 : tie.Need-next-float-requires-2 Inv-loop μ-loop Inv-loop2 μ-loop2
-next-float-requires-2 c κs = search needs
+mul-read-float-2 : tie.Need-mul-read-float-2 Inv-loop μ-loop Inv-loop2 μ-loop2
+mul-read-float-2 c = search needs
+
+add-read-float : tie.Need-add-read-float Inv-loop μ-loop Inv-loop2 μ-loop2
+add-read-float c = search needs
+
+read-float-requires-2 : tie.Need-read-float-requires-2 Inv-loop μ-loop Inv-loop2 μ-loop2
+read-float-requires-2 c κs = search needs
 
 mul-projected : tie.Need-mul-projected Inv-loop μ-loop Inv-loop2 μ-loop2
 mul-projected c = search needs
@@ -64,8 +67,8 @@ loop2-less c = search needs
 loop2-again : tie.Need-loop2-again Inv-loop μ-loop Inv-loop2 μ-loop2
 loop2-again c = search needs
 
-next-float-requires-3 : tie.Need-next-float-requires-3 Inv-loop μ-loop Inv-loop2 μ-loop2
-next-float-requires-3 c κs = search needs
+read-float-requires-3 : tie.Need-read-float-requires-3 Inv-loop μ-loop Inv-loop2 μ-loop2
+read-float-requires-3 c κs = search needs
 
 returns : tie.Need-returns Inv-loop μ-loop Inv-loop2 μ-loop2
 returns c = search needs
@@ -78,21 +81,22 @@ sums-spec =
     μ-loop
     Inv-loop2
     μ-loop2
-    from-word-requires
-    array-write-normal
     loop-holds
-    next-float-requires
+    mul-read-float
+    read-float-requires
     mul-normal
-    array-write-normal-2
+    array-write-normal
     add-n
     loop-less
     loop-again
     loop2-holds
-    next-float-requires-2
+    mul-read-float-2
+    add-read-float
+    read-float-requires-2
     mul-projected
     array-write-projected
     add-i
     loop2-less
     loop2-again
-    next-float-requires-3
+    read-float-requires-3
     returns)

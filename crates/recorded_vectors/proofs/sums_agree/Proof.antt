@@ -1,14 +1,14 @@
--- `recorded_vectors::sums_agree` is safe and ends: each loop's counter stays within its range, which is the measure.
+-- The loop's counter stays within its range, and what is left of the range is the measure.
 use Prim.Native.Nat.{_≤_, _-_}
 use borrow.Author.Needs.{needs}
 use Rattle.recorded_vectors.proofs.sums_agree.Statement.{statement}
 use Rattle.recorded_vectors.proofs.sums_agree.Tie as tie
 
 abbrev Inv-loop : tie.InvT-loop
-Inv-loop fd first n rates moments held shared ok₀ k₀ ok k = (n ≤ 2048) × (k ≤ 10)
+Inv-loop s n rates moments held shared answers ok₀ k₀ ok k = (n ≤ 2048) × (k ≤ 10)
 
 abbrev μ-loop : tie.MeasureT-loop
-μ-loop fd first n rates moments held shared ok₀ k₀ ok k = 10 - k
+μ-loop s n rates moments held shared answers ok₀ k₀ ok k = 10 - k
 
 stored-requires : tie.Need-stored-requires Inv-loop μ-loop
 stored-requires c κs = search needs
@@ -16,17 +16,26 @@ stored-requires c κs = search needs
 read-window-requires : tie.Need-read-window-requires Inv-loop μ-loop
 read-window-requires c κs = search needs
 
-next-word-requires : tie.Need-next-word-requires Inv-loop μ-loop
-next-word-requires c κs = search needs
-
 sum-shared-requires : tie.Need-sum-shared-requires Inv-loop μ-loop
 sum-shared-requires c κs = search needs
+
+mul-part : tie.Need-mul-part Inv-loop μ-loop
+mul-part c = search needs
+
+add-part : tie.Need-add-part Inv-loop μ-loop
+add-part c = search needs
+
+part-requires : tie.Need-part-requires Inv-loop μ-loop
+part-requires c κs = search needs
 
 loop-holds : tie.Need-loop-holds Inv-loop μ-loop
 loop-holds c = search needs
 
-next-word-requires-2 : tie.Need-next-word-requires-2 Inv-loop μ-loop
-next-word-requires-2 c κs = search needs
+mul-part-2 : tie.Need-mul-part-2 Inv-loop μ-loop
+mul-part-2 c = search needs
+
+part-requires-2 : tie.Need-part-requires-2 Inv-loop μ-loop
+part-requires-2 c κs = search needs
 
 sums-requires : tie.Need-sums-requires Inv-loop μ-loop
 sums-requires c κs = search needs
@@ -72,10 +81,13 @@ sums-agree-spec =
     μ-loop
     stored-requires
     read-window-requires
-    next-word-requires
     sum-shared-requires
+    mul-part
+    add-part
+    part-requires
     loop-holds
-    next-word-requires-2
+    mul-part-2
+    part-requires-2
     sums-requires
     add-add-window
     no-sums-requires

@@ -1,32 +1,38 @@
--- `recorded_vectors::tie_agrees` is safe and ends: each loop's counter stays within its range, which is the measure.
+-- The loop's counter stays within its range, and what is left of the range is the measure.
 use Prim.Native.Nat.{_≤_, _-_}
 use borrow.Author.Needs.{needs}
 use Rattle.recorded_vectors.proofs.tie_agrees.Statement.{statement}
 use Rattle.recorded_vectors.proofs.tie_agrees.Tie as tie
 
 abbrev Inv-loop : tie.InvT-loop
-Inv-loop fd first share mask entries₀ k₀ entries k = k ≤ 20
+Inv-loop s mask entries₀ k₀ entries k = k ≤ 20
 
 abbrev μ-loop : tie.MeasureT-loop
-μ-loop fd first share mask entries₀ k₀ entries k = 20 - k
+μ-loop s mask entries₀ k₀ entries k = 20 - k
 
-from-word-requires : tie.Need-from-word-requires Inv-loop μ-loop
-from-word-requires c κs = search needs
-
-next-word-requires : tie.Need-next-word-requires Inv-loop μ-loop
-next-word-requires c κs = search needs
+read-word-requires : tie.Need-read-word-requires Inv-loop μ-loop
+read-word-requires c κs = search needs
 
 loop-holds : tie.Need-loop-holds Inv-loop μ-loop
 loop-holds c = search needs
 
-next-float-requires : tie.Need-next-float-requires Inv-loop μ-loop
-next-float-requires c κs = search needs
+mul-at : tie.Need-mul-at Inv-loop μ-loop
+mul-at c = search needs
 
-next-float-requires-2 : tie.Need-next-float-requires-2 Inv-loop μ-loop
-next-float-requires-2 c κs = search needs
+add-at : tie.Need-add-at Inv-loop μ-loop
+add-at c = search needs
 
 cast-entry : tie.Need-cast-entry Inv-loop μ-loop
 cast-entry c = search needs
+
+read-float-requires : tie.Need-read-float-requires Inv-loop μ-loop
+read-float-requires c κs = search needs
+
+add-read-float : tie.Need-add-read-float Inv-loop μ-loop
+add-read-float c = search needs
+
+read-float-requires-2 : tie.Need-read-float-requires-2 Inv-loop μ-loop
+read-float-requires-2 c κs = search needs
 
 entry-requires : tie.Need-entry-requires Inv-loop μ-loop
 entry-requires c κs = search needs
@@ -46,17 +52,14 @@ loop-less c = search needs
 loop-again : tie.Need-loop-again Inv-loop μ-loop
 loop-again c = search needs
 
-next-float-requires-3 : tie.Need-next-float-requires-3 Inv-loop μ-loop
-next-float-requires-3 c κs = search needs
-
-next-float-requires-4 : tie.Need-next-float-requires-4 Inv-loop μ-loop
-next-float-requires-4 c κs = search needs
-
-next-word-requires-2 : tie.Need-next-word-requires-2 Inv-loop μ-loop
-next-word-requires-2 c κs = search needs
+read-word-requires-2 : tie.Need-read-word-requires-2 Inv-loop μ-loop
+read-word-requires-2 c κs = search needs
 
 cast-expected : tie.Need-cast-expected Inv-loop μ-loop
 cast-expected c = search needs
+
+read-float-requires-3 : tie.Need-read-float-requires-3 Inv-loop μ-loop
+read-float-requires-3 c κs = search needs
 
 delay-to-fit-requires : tie.Need-delay-to-fit-requires Inv-loop μ-loop
 delay-to-fit-requires c κs = search needs
@@ -79,22 +82,23 @@ tie-agrees-spec =
     (tie.spec
     Inv-loop
     μ-loop
-    from-word-requires
-    next-word-requires
+    read-word-requires
     loop-holds
-    next-float-requires
-    next-float-requires-2
+    mul-at
+    add-at
     cast-entry
+    read-float-requires
+    add-read-float
+    read-float-requires-2
     entry-requires
     mul-entries
     array-set-from-entries
     add-k
     loop-less
     loop-again
-    next-float-requires-3
-    next-float-requires-4
-    next-word-requires-2
+    read-word-requires-2
     cast-expected
+    read-float-requires-3
     delay-to-fit-requires
     enum-told
     enum-known-p

@@ -1,5 +1,4 @@
 -- `vectors::double_bits_at` meets its contract: past its two tests both words lie in the slice.
-use native.Mathlib.Omega.{arith}
 use borrow.Author.Needs.{needs}
 use Rattle.vectors.specs.Words.{doubleBitsAt}
 use Rattle.vectors.proofs.double_bits_at.Statement.{statement}
@@ -14,8 +13,8 @@ sub-if2 c = search needs
 returns-2 : tie.Need-returns-2
 returns-2 c = search needs
 
-word-at-requires : tie.Need-word-at-requires
-word-at-requires c κs = search needs
+read-word-requires : tie.Need-read-word-requires
+read-word-requires c κs = search needs
 
 cast-result : tie.Need-cast-result
 cast-result c = search needs
@@ -23,11 +22,11 @@ cast-result c = search needs
 mul-result : tie.Need-mul-result
 mul-result c = search needs
 
-add-word-at : tie.Need-add-word-at
-add-word-at c = search needs
+add-read-word : tie.Need-add-read-word
+add-read-word c = search needs
 
-word-at-requires-2 : tie.Need-word-at-requires-2
-word-at-requires-2 c κs = search needs
+read-word-requires-2 : tie.Need-read-word-requires-2
+read-word-requires-2 c κs = search needs
 
 cast-result-2 : tie.Need-cast-result-2
 cast-result-2 c = search needs
@@ -37,7 +36,7 @@ add-result c = search needs
 
 returns-3 : tie.Need-returns-3
 unfolding doubleBitsAt
-returns-3 c h = rw (c .before .word-at .ensures .0 (omega arith), c .word-at2 .ensures .0 (omega arith))
+returns-3 c h = rw (c .before .read-word .ensures, c .read-word2 .ensures)
 
 pub double-bits-at-spec : {M : Type 1} → statement M
 double-bits-at-spec =
@@ -46,11 +45,11 @@ double-bits-at-spec =
     returns
     sub-if2
     returns-2
-    word-at-requires
+    read-word-requires
     cast-result
     mul-result
-    add-word-at
-    word-at-requires-2
+    add-read-word
+    read-word-requires-2
     cast-result-2
     add-result
     returns-3)

@@ -25,26 +25,26 @@ mul-at c = search needs
 add-at : tie.Need-add-at Inv-loop μ-loop
 add-at c = search needs
 
-float-at-requires : tie.Need-float-at-requires Inv-loop μ-loop
-float-at-requires c κs = search needs
+read-float-requires : tie.Need-read-float-requires Inv-loop μ-loop
+read-float-requires c κs = search needs
 
-add-float-at : tie.Need-add-float-at Inv-loop μ-loop
-add-float-at c = search needs
+add-read-float : tie.Need-add-read-float Inv-loop μ-loop
+add-read-float c = search needs
 
-float-at-requires-2 : tie.Need-float-at-requires-2 Inv-loop μ-loop
-float-at-requires-2 c κs = search needs
+read-float-requires-2 : tie.Need-read-float-requires-2 Inv-loop μ-loop
+read-float-requires-2 c κs = search needs
 
-add-float-at-2 : tie.Need-add-float-at-2 Inv-loop μ-loop
-add-float-at-2 c = search needs
+add-read-float-2 : tie.Need-add-read-float-2 Inv-loop μ-loop
+add-read-float-2 c = search needs
 
-float-at-requires-3 : tie.Need-float-at-requires-3 Inv-loop μ-loop
-float-at-requires-3 c κs = search needs
+read-float-requires-3 : tie.Need-read-float-requires-3 Inv-loop μ-loop
+read-float-requires-3 c κs = search needs
 
-add-float-at-3 : tie.Need-add-float-at-3 Inv-loop μ-loop
-add-float-at-3 c = search needs
+add-read-float-3 : tie.Need-add-read-float-3 Inv-loop μ-loop
+add-read-float-3 c = search needs
 
-float-at-requires-4 : tie.Need-float-at-requires-4 Inv-loop μ-loop
-float-at-requires-4 c κs = search needs
+read-float-requires-4 : tie.Need-read-float-requires-4 Inv-loop μ-loop
+read-float-requires-4 c κs = search needs
 
 record-tick-requires : tie.Need-record-tick-requires Inv-loop μ-loop
 record-tick-requires c κs = search needs
@@ -90,13 +90,13 @@ recording-agrees-spec =
     loop-holds
     mul-at
     add-at
-    float-at-requires
-    add-float-at
-    float-at-requires-2
-    add-float-at-2
-    float-at-requires-3
-    add-float-at-3
-    float-at-requires-4
+    read-float-requires
+    add-read-float
+    read-float-requires-2
+    add-read-float-2
+    read-float-requires-3
+    add-read-float-3
+    read-float-requires-4
     record-tick-requires
     add-k
     loop-less

@@ -58,11 +58,11 @@ element-copy-out-flag c = search needs
 flag-requires : tie.Need-flag-requires Inv-loop μ-loop
 flag-requires c κs = search needs
 
-add-word-at : tie.Need-add-word-at Inv-loop μ-loop
-add-word-at c = search needs
+add-read-word : tie.Need-add-read-word Inv-loop μ-loop
+add-read-word c = search needs
 
-word-at-requires : tie.Need-word-at-requires Inv-loop μ-loop
-word-at-requires c κs = search needs
+read-word-requires : tie.Need-read-word-requires Inv-loop μ-loop
+read-word-requires c κs = search needs
 
 returns : tie.Need-returns Inv-loop μ-loop
 returns c = search needs
@@ -101,8 +101,8 @@ samples-agree-spec =
     is-at-requires-3
     element-copy-out-flag
     flag-requires
-    add-word-at
-    word-at-requires
+    add-read-word
+    read-word-requires
     returns
     add-k
     loop-less

@@ -17,9 +17,17 @@ pub fn bits(value: f32) -> u32 {
     }
 }
 
+/// Whether [`root`] is the machine's.
+pub const HARDWARE_ROOT: bool = cfg!(feature = "hardware_root");
+
 /// The nearest f32 to the exact root of a positive finite value; 0 of 0, infinity of infinity.
 /// NaN of a NaN and of a negative value other than -0.
+///
+/// With the feature `hardware_root` it is the machine's root, which is correctly rounded too.
 pub fn root(value: f32) -> f32 {
+    if HARDWARE_ROOT {
+        return value.sqrt();
+    }
     if value == 0.0 || value == f32::INFINITY {
         return value;
     }

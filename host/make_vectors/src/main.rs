@@ -17,7 +17,7 @@ use std::process::ExitCode;
 
 use kinds::{KINDS, RUNS_LAYOUT};
 
-const USAGE: &str = "usage: vectors all|NAME FOLDER [--seed S]";
+const USAGE: &str = "usage: make_vectors all|NAME FOLDER [--seed S]";
 
 fn main() -> ExitCode {
     let written = arguments().and_then(|(name, folder, seed)| {
@@ -76,7 +76,7 @@ fn write(name: &str, folder: &Path, seed: u64) -> io::Result<()> {
 /// How a file was made.
 fn made_by(name: &str, seed: u64) -> String {
     format!(
-        "Seed {seed}: `cargo run --release -p vectors -- {name} FOLDER --seed {seed}` in host/.\n\
+        "Seed {seed}: `cargo run --release -p make_vectors -- {name} FOLDER --seed {seed}` in host/.\n\
          The answers are those of stable-flight 110781c7ef with document 01's stand-ins. A NaN answer is 7FC00000.\n"
     )
 }
