@@ -1,6 +1,6 @@
 // What both fits share: the one unit of a delay, the model, and the rule that picks a delay among fits that are as good.
 ghost use mathlib.Core.Path.{_≡_};
-ghost use Prim.Native.Nat.{_≤_};
+ghost use Prim.Native.Nat.{_≤_, min};
 ghost use Rattle.delay.specs.HalfTicks.{ofRecorded, ofIntegrated, wholeTicks, halfTick};
 ghost use Rattle.delay.specs.Tie.{entryCount, considered as consideredOf, residuals, lesser as lesserOf, leastTo, within, firstFrom, shortestTied, delayToFit};
 
@@ -42,15 +42,16 @@ pub enum Residual {
 // ---- the unit
 
 impl Delay {
-    // The recorded fit tries whole ticks: its position p is p ticks. A position is at most 20, the length of the rule's list.
-    // Open for the recorded fit only.
+    // The recorded fit tries whole ticks: its position p is p ticks. A position past the end of the rule's list is read as its last, 20.
     pub fn from_recorded(position: usize) -> Delay
-        requires { ⌜ position ≤ entryCount ⌝ }
-        ensures { λ r. ⌜ r ≡ ofRecorded position ⌝ }
+        ensures { λ r. ⌜ r ≡ ofRecorded (min position entryCount) ⌝ }
     {
-        Delay {
-            half_ticks: 2 * (position as u32),
+        if position < 20 {
+            return Delay {
+                half_ticks: 2 * (position as u32),
+            };
         }
+        Delay { half_ticks: 40 }
     }
 
     // The integrated fit tries half ticks from one tick on: its position p is p + 1 half ticks.

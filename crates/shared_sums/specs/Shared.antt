@@ -8,6 +8,8 @@ use lib.ListN.{replicate, set}
 use lib.Ieee.{Float, binary32, sub, mul}
 use Rattle.float.specs.Values.{zero32, one32}
 use Rattle.float.specs.Series.{at, fill}
+use Rattle.window.specs.Walk.{isRow}
+use Rattle.window.specs.Arrays.{manyTo}
 use Rattle.least_squares.specs.declared.Sums.{Sums}
 use Rattle.rows.specs.Rows.{target, each, sumRows}
 use Rattle.shared_sums.specs.declared.SharedSums.{SharedSums}
@@ -48,6 +50,7 @@ sharedSums rates moments marks len = record {
   pairs0 = pairSums moments marks 0 len;
   pairs1 = pairSums moments marks 1 len;
   pairs2 = pairSums moments marks 2 len;
+  rows = manyTo isRow marks len;
 }
 
 -- the pairs of moments that stand o ticks apart, the later one j ticks back

@@ -10,16 +10,19 @@ use Rattle.shared_sums.proofs.delay_sums.Statement.{statement}
 use Rattle.shared_sums.proofs.delay_sums.Tie as tie
 
 abbrev Inv-loop : tie.InvT-loop
-Inv-loop shared d normal₀ n₀ normal n = (n ≤ 36) × (normal ≡ fill (λ n l. crossSum shared d (placeOf (n % 6)) (placeOf (n / 6))) normal₀ n)
+Inv-loop shared d delay normal₀ n₀ normal n = (n ≤ 36) × (normal ≡ fill (λ n l. crossSum shared delay (placeOf (n % 6)) (placeOf (n / 6))) normal₀ n)
 
 abbrev μ-loop : tie.MeasureT-loop
-μ-loop shared d normal₀ n₀ normal n = 36 - n
+μ-loop shared d delay normal₀ n₀ normal n = 36 - n
 
 abbrev Inv-loop2 : tie.InvT-loop2
-Inv-loop2 shared d normal projected₀ i₀ projected i = (i ≤ 6) × (projected ≡ fill (λ i l. crossSum shared d (placeOf i) 3) projected₀ i)
+Inv-loop2 shared d delay normal projected₀ i₀ projected i = (i ≤ 6) × (projected ≡ fill (λ i l. crossSum shared delay (placeOf i) 3) projected₀ i)
 
 abbrev μ-loop2 : tie.MeasureT-loop2
-μ-loop2 shared d normal projected₀ i₀ projected i = 6 - i
+μ-loop2 shared d delay normal projected₀ i₀ projected i = 6 - i
+
+delay-within-requires : tie.Need-delay-within-requires Inv-loop μ-loop Inv-loop2 μ-loop2
+delay-within-requires c κs = search needs
 
 loop-holds : tie.Need-loop-holds Inv-loop μ-loop Inv-loop2 μ-loop2
 unfolding fill
@@ -92,7 +95,7 @@ returns c =
     let m = c .before .before .loop2 in
     let e : l .n ≡ 36 = omega arith in
     let f : m .i ≡ 6 = omega arith in
-    rw (← (rw e at (l .inv .1)), ← (rw f at (m .inv .1)), ← (c .cross3 .ensures))
+    rw (← (c .before .before .before .before .before .delay-within .ensures), ← (rw e at (l .inv .1)), ← (rw f at (m .inv .1)), ← (c .cross3 .ensures))
 
 pub delay-sums-spec : {M : Type 1} → statement M
 delay-sums-spec =
@@ -102,6 +105,7 @@ delay-sums-spec =
     μ-loop
     Inv-loop2
     μ-loop2
+    delay-within-requires
     loop-holds
     place-requires
     place-requires-2
