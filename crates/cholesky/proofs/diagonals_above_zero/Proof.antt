@@ -5,6 +5,7 @@ use native.Mathlib.Omega.{arith}
 use native.Mathlib.Numerals.{add-one}
 use borrow.Author.Needs.{needs}
 use Rattle.cholesky.specs.Cholesky.{above}
+use Rattle.cholesky.proofs.ColumnOrder.{tested-in-order}
 use Rattle.cholesky.proofs.diagonals_above_zero.Statement.{statement}
 use Rattle.cholesky.proofs.diagonals_above_zero.Tie as tie
 
@@ -35,7 +36,9 @@ unfolding above
 loop-again c = (omega arith, rw add-one (cc))
 
 returns : tie.Need-returns Inv-loop μ-loop
-returns c = let e : c .before .loop .j ≡ 6 = omega arith in rw e at (c .before .loop .inv .1)
+returns c =
+    let e : c .before .loop .j ≡ 6 = omega arith in
+    tested-in-order _ _ _ (rw e at (c .before .loop .inv .1))
 
 pub diagonals-above-zero-spec : {M : Type 1} → statement M
 diagonals-above-zero-spec =

@@ -8,6 +8,7 @@ use lib.ListN.{replicate}
 use Rattle.float.specs.Values.{zero32}
 use Rattle.float.specs.Series.{fill}
 use Rattle.cholesky.specs.Cholesky.{factorEntry, factor}
+use Rattle.cholesky.proofs.ColumnOrder.{in-order}
 use Rattle.cholesky.proofs.factored.Statement.{statement}
 use Rattle.cholesky.proofs.factored.Tie as tie
 
@@ -42,7 +43,7 @@ loop-again c = (omega arith, rw add-one (cc))
 
 returns : tie.Need-returns Inv-loop μ-loop
 unfolding factor
-returns c = let e : c .before .loop .n ≡ 36 = omega arith in rw e at (c .before .loop .inv .1)
+returns c = let e : c .before .loop .n ≡ 36 = omega arith in in-order _ _ (rw e at (c .before .loop .inv .1))
 
 pub factored-spec : {M : Type 1} → statement M
 factored-spec =

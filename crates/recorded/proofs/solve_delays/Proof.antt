@@ -48,7 +48,7 @@ unfolding solvedFrom
 loop-again c =
     let l = c .before .before .before .loop in
     let d : delayWithin (l .k + 1) ≡ l .k + 1 = omega arith in
-    (omega arith, fill-more _ _ _ (l .k) _ _ (l .inv .1) (c .solve .ensures ∙ ap solve (rw d at (c .before .delay-sums .ensures))) (add-one (l .k)))
+    (omega arith, fill-more _ _ _ (l .k) _ _ (l .inv .1) (c .solve .ensures .is ∙ ap solve (rw d at (c .before .delay-sums .ensures))) (add-one (l .k)))
 
 returns : tie.Need-returns Inv-loop μ-loop
 unfolding solvedList

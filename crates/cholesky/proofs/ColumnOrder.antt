@@ -1,21 +1,17 @@
 -- In the order of 01's text, in place and column by column, Cholesky gives the L of `factor`, and tests the same diagonals.
 -- What is done of a column is `reduced`, and the columns before it are L's.
 use Prim.Native.Nat.{ℕ, zero, suc, _≤_, _<_}
-use mathlib.Core.Path.{_≡_, refl, sym}
-use mathlib.Core.Bool.{Bool, true, false, _&&_}
+use mathlib.Core.Path.{_≡_, refl, sym, _∙_}
+use mathlib.Core.Bool.{Bool}
 use mathlib.Core.Logic.{⊎-elim}
 use mathlib.Core.List.{List}
 use native.Mathlib.Nat.{eq-or-lt-of-le}
 use native.Mathlib.Omega.{arith}
 use borrow.Author.Tests.{lt-ltb, le-leb, eq-eqb, ne-eqb}
-use lib.Ieee.{Float, lt}
-use Rattle.float.specs.Values.{zero32}
-use Rattle.least_squares.specs.declared.Sums.{Sums}
-use Rattle.least_squares.specs.declared.Solved.the-variants.{NoFit}
+use lib.Ieee.{Float}
 use Rattle.cholesky.specs.Cholesky.{entryAt, reduced, factor, above}
-use Rattle.cholesky.specs.ColumnOrder.{Matrix, lessColumn, lessColumns, rootedColumn, columnsDone, testedDiagonal}
-use Rattle.least_squares.specs.Solve.{solveIf, solveWith, solve}
+use Rattle.cholesky.specs.ColumnOrder.{Matrix, lessColumn, lessColumns, rootedColumn, columnsDone, testedDiagonal, testedAbove, Factored, Tested}
 use Rattle.cholesky.proofs.Textbook.{on-diagonal, below-diagonal}
 
 -- another column is left as it is
 other : (j : ℕ) (m : Matrix) (k i c : ℕ) → (c ≡ j → ⊥) → lessColumns j m k i c ≡ m i c
@@ -82,34 +78,24 @@ module _ (a : List Float) where
   done zero h i c p o g = absurd (omega arith)
   done (suc j) h i c p o g = let t : j ≤ 6 = omega arith in one-more j h (done j t) i c p o g
 
-  pub column-order : (i j : ℕ) → i < 6 → j ≤ i → columnsDone (entryAt a) 6 i j ≡ entryAt (factor a) i j
+  column-order : (i j : ℕ) → i < 6 → j ≤ i → columnsDone (entryAt a) 6 i j ≡ entryAt (factor a) i j
   column-order i j p g = done 6 (omega arith) i j p (omega arith) g
 
-  pub tested : (j : ℕ) → j < 6 → testedDiagonal (entryAt a) j ≡ reduced (factor a) j j (entryAt a j j) j
+  tested : (j : ℕ) → j < 6 → testedDiagonal (entryAt a) j ≡ reduced (factor a) j j (entryAt a j j) j
   unfolding testedDiagonal
   tested j q =
       let l : j ≤ 6 = omega arith in
       let s : j ≤ j = omega arith in
       own j q (done j l) j j q s s
 
--- one diagonal that is not above 0, and the test fails
-fails : (a l : List Float) (n j : ℕ) → j < n → lt zero32 (reduced l j j (entryAt a j j) j) ≡ false → above a l n ≡ false
-unfolding above
-fails a l zero j h e = absurd (omega arith)
-fails a l (suc n) j h e =
-    let t : j ≤ n = omega arith in
-    ⊎-elim
-    (λ (q : j ≡ n). rw (← q, e) (never (above a l j)))
-    (λ (q : j < n). rw (fails a l n j q e))
-    (eq-or-lt-of-le t)
-  where
-    never : (b : Bool) → (b && false) ≡ false
-    never true = refl
-    never false = refl
+  tested-above : (n : ℕ) → n ≤ 6 → above a (factor a) n ≡ testedAbove (entryAt a) n
+  unfolding above testedAbove
+  tested-above zero h = refl
+  tested-above (suc n) h = let l : n ≤ 6 = omega arith in rw (tested-above n l, tested n h)
 
--- "A diagonal not above 0 (NaN too): no fit"
-pub no-fit : (s : Sums) (j : ℕ) → j < 6 → lt zero32 (testedDiagonal (entryAt (s .normal)) j) ≡ false → solve s ≡ NoFit
-unfolding solve solveWith solveIf
-no-fit s j q e =
-    let f : above (s .normal) (factor (s .normal)) 6 ≡ false = fails (s .normal) (factor (s .normal)) 6 j q (rw (← tested (s .normal) j q) e) in
-    rw f
+-- what the two functions ensure
+pub in-order : (a l : List Float) → l ≡ factor a → Factored a l
+in-order a l e = record { by-entry = e; in-order = λ i j p g. rw e (sym (column-order a i j p g)) }
+
+pub tested-in-order : (a l : List Float) (ok : Bool) → ok ≡ above a l 6 → Tested a l ok
+tested-in-order a l ok e = record { by-entry = e; in-order = λ f. e ∙ rw f (tested-above a 6 (omega arith)) }
