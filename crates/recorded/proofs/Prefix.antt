@@ -18,7 +18,7 @@ use Rattle.rows.proofs.Prefix.{window-take, sum-take}
 use Rattle.rows.proofs.Together.{alike}
 use Rattle.shared_sums.specs.declared.SharedSums.{SharedSums}
 use Rattle.shared_sums.specs.Shared.{sharedSums}
-use Rattle.shared_sums.proofs.Shared.{delay-is}
+use Rattle.delay_sums.proofs.Same.{delay-is}
 use Rattle.recorded.specs.Classify.{tieShare, maxDelay, atLeastOne, solvedAt, rowsDt, fitRecorded}
 use Rattle.recorded.specs.Stages.{Stored, solvedFrom, rowsDtFrom, fitFrom}
 use Rattle.recorded.proofs.Winner.{entries-by, fit-by}

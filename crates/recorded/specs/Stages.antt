@@ -13,7 +13,7 @@ use Rattle.least_squares.specs.declared.Solved.{Solved}
 use Rattle.least_squares.specs.declared.Solved.the-variants.{NoFit}
 use Rattle.least_squares.specs.Solve.{solve}
 use Rattle.shared_sums.specs.declared.SharedSums.{SharedSums}
-use Rattle.shared_sums.specs.Shared.{delaySums}
+use Rattle.delay_sums.specs.Delays.{delaySums}
 use Rattle.recorded.specs.declared.RecordedFit.{RecordedFit}
 use Rattle.recorded.specs.Classify.{tieShare, maxDelay, atLeastOne, entries, fitOf}
 

@@ -93,7 +93,7 @@ fn solve_delays(shared: SharedSums) -> [Solved; 10]
 {
     let mut fits = [Solved::NoFit; 10];
     for k in 0..10 {
-        fits[k] = shared_sums::delay_sums(shared, k + 1).solve();
+        fits[k] = delay_sums::delay_sums(shared, k + 1).solve();
     }
     fits
 }

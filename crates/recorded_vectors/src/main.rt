@@ -150,7 +150,7 @@ fn sums_agree(fd: i32, first: u32) -> bool {
         let expected = sums(fd, next_word(fd));
         let alone = rows::add_window(&rates, &moments, &held, n, k + 1, rows::no_sums());
         ok = ok & same_sums(alone, expected);
-        ok = ok & same_sums(shared_sums::delay_sums(shared, k + 1), expected);
+        ok = ok & same_sums(delay_sums::delay_sums(shared, k + 1), expected);
     }
     ok
 }

@@ -1,12 +1,13 @@
 -- How the arrays of sums are filled: block by block in one row, and row by row along the window.
-use Prim.Native.Nat.{ℕ, zero, suc, _+_, _*_}
+use Prim.Native.Nat.{ℕ, zero, suc, _+_, _*_, _-_, _/_, _%_, _<_}
 use mathlib.Core.Path.{_≡_, refl, sym, _∙_}
 use mathlib.Core.Bool.{Bool}
 use mathlib.Core.List.{List}
 use native.Mathlib.Nat.{mul-suc}
+use native.Mathlib.Omega.{arith}
 use native.Mathlib.Numerals.{add-one, unary-clauses}
 use lib.ListN.{replicate}
-use lib.Ieee.{Float, binary32, add}
+use lib.Ieee.{Float, binary32, add, mul}
 use Rattle.float.specs.Values.{zero32}
 use Rattle.float.specs.Series.{at}
 use Rattle.window.specs.Walk.{over, markAt, isRow}
@@ -17,6 +18,21 @@ use Rattle.rows.proofs.Walked.{adds, each-over}
 use Rattle.rows.proofs.Together.{part-over}
 use Rattle.shared_sums.specs.declared.SharedSums.{SharedSums}
 use Rattle.shared_sums.specs.Shared.{commonTerms, commonProduct, laggedProduct, pairProduct, rowSums, commonSums, laggedSums, pairSums, sharedSums, fillFrom}
+
+-- entries of the products, by their parts
+pub lagged-at : (terms moments : List Float) (k j q : ℕ) → j < 12 → laggedProduct terms moments k (12 * q + j) ≡ mul binary32 (at terms q) (at moments (k - j))
+unfolding laggedProduct
+lagged-at terms moments k j q h =
+    let r : (12 * q + j) % 12 ≡ j = omega arith in
+    let e : (12 * q + j) / 12 ≡ q = omega arith in
+    rw (r, e)
+
+pub common-at : (terms : List Float) (j q : ℕ) → j < 4 → commonProduct terms (4 * q + j) ≡ mul binary32 (at terms j) (at terms q)
+unfolding commonProduct
+common-at terms j q h =
+    let r : (4 * q + j) % 4 ≡ j = omega arith in
+    let e : (4 * q + j) / 4 ≡ q = omega arith in
+    rw (r, e)
 
 more : (a n : ℕ) (f : ℕ → Float → Float) (l : List Float) → each (a + n) f l ≡ fillFrom a (λ n m. f n (at m n)) (each a f l) n
 unfolding fillFrom

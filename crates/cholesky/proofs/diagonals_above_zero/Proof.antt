@@ -33,7 +33,9 @@ loop-less c = search needs
 
 loop-again : tie.Need-loop-again Inv-loop μ-loop
 unfolding above
-loop-again c = (omega arith, rw add-one (cc))
+loop-again c =
+    let l = c .before .before .before .loop in
+    (omega arith, rw (add-one (l .j), ← (l .inv .1), ← (c .before .entry .ensures), ← (c .reduced-entry .ensures)))
 
 returns : tie.Need-returns Inv-loop μ-loop
 returns c =

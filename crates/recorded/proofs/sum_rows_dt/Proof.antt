@@ -27,7 +27,7 @@ loop-less c = search needs
 
 loop-again : tie.Need-loop-again Inv-loop μ-loop
 unfolding sumTo
-loop-again c = (omega arith, rw add-one (cc))
+loop-again c = let l = c .before .loop in (omega arith, rw (add-one (l .counter), ← (l .inv .1)))
 
 returns : tie.Need-returns Inv-loop μ-loop
 returns c = let e : c .before .loop .counter ≡ c .before .before .args .rows = omega arith in rw e at (c .before .loop .inv .1)

@@ -1,9 +1,9 @@
--- `shared_sums::pair` meets its contract: its three answers are the definition's.
+-- `delay_sums::pair` meets its contract: its three answers are the definition's.
 use borrow.Author.Needs.{needs}
 use borrow.Author.Tests.{eq-eqb, ne-eqb}
-use Rattle.shared_sums.specs.Shared.{pairAt}
-use Rattle.shared_sums.proofs.pair.Statement.{statement}
-use Rattle.shared_sums.proofs.pair.Tie as tie
+use Rattle.delay_sums.specs.Delays.{pairAt}
+use Rattle.delay_sums.proofs.pair.Statement.{statement}
+use Rattle.delay_sums.proofs.pair.Tie as tie
 
 mul-result : tie.Need-mul-result
 mul-result c = search needs

@@ -14,7 +14,9 @@ use Rattle.float.specs.Series.{at}
 use Rattle.rows.specs.Rows.{target, regressors, product, projection, sumRows, sumsBy, windowSums, noSums}
 use Rattle.rows.proofs.Each.{fill-each, each-alike, each-at}
 use Rattle.rows.proofs.Together.{same-sums}
-use Rattle.shared_sums.specs.Shared.{commonTerms, commonProduct, laggedProduct, pairProduct, rowSums, commonSums, laggedSums, pairSums, sharedSums, pairAt, crossSum, placeOf, delaySums}
+use Rattle.shared_sums.specs.Shared.{commonTerms, pairProduct, rowSums, commonSums, laggedSums, pairSums, sharedSums}
+use Rattle.shared_sums.proofs.Arrays.{common-at, lagged-at}
+use Rattle.delay_sums.specs.Delays.{pairAt, crossSum, placeOf, delaySums}
 
 unlike-comm : (s t : Bool) → unlike s t ≡ unlike t s
 unlike-comm true true = refl
@@ -33,21 +35,6 @@ commutes f (inf s) (fin t n d) = rw (unlike-comm s t)
 commutes f (fin s m e) nan = refl
 commutes f (fin s m e) (inf t) = rw (unlike-comm s t)
 commutes f (fin s m e) (fin t n d) = rw (unlike-comm s t, mul-comm (m * up e) (n * up d), mul-comm (down e) (down d))
-
--- entries of the products, by their parts
-pub lagged-at : (terms moments : List Float) (k j q : ℕ) → j < 12 → laggedProduct terms moments k (12 * q + j) ≡ mul binary32 (at terms q) (at moments (k - j))
-unfolding laggedProduct
-lagged-at terms moments k j q h =
-    let r : (12 * q + j) % 12 ≡ j = omega arith in
-    let e : (12 * q + j) / 12 ≡ q = omega arith in
-    rw (r, e)
-
-pub common-at : (terms : List Float) (j q : ℕ) → j < 4 → commonProduct terms (4 * q + j) ≡ mul binary32 (at terms j) (at terms q)
-unfolding commonProduct
-common-at terms j q h =
-    let r : (4 * q + j) % 4 ≡ j = omega arith in
-    let e : (4 * q + j) / 4 ≡ q = omega arith in
-    rw (r, e)
 
 sum-by : (marks : List Bool) (len : ℕ) (f g : ℕ → Float) → ((k : ℕ) → f k ≡ g k) → sumRows marks len f zero32 ≡ sumRows marks len g zero32
 sum-by marks len f g e = ap (λ (h : ℕ → Float). sumRows marks len h zero32) (fun-ext e)

@@ -1,13 +1,13 @@
--- `shared_sums::delay_sums` meets its contract. Both loops' invariant: the entries before the counter are filled in. The measures are the entries left.
+-- `delay_sums::delay_sums` meets its contract. Both loops' invariant: the entries before the counter are filled in. The measures are the entries left.
 use Prim.Native.Nat.{_≤_, _-_, _/_, _%_}
 use mathlib.Core.Path.{_≡_, refl}
 use native.Mathlib.Omega.{arith}
 use native.Mathlib.Numerals.{add-one}
 use borrow.Author.Needs.{needs}
 use Rattle.float.specs.Series.{fill}
-use Rattle.shared_sums.specs.Shared.{crossSum, placeOf, delaySums}
-use Rattle.shared_sums.proofs.delay_sums.Statement.{statement}
-use Rattle.shared_sums.proofs.delay_sums.Tie as tie
+use Rattle.delay_sums.specs.Delays.{crossSum, placeOf, delaySums}
+use Rattle.delay_sums.proofs.delay_sums.Statement.{statement}
+use Rattle.delay_sums.proofs.delay_sums.Tie as tie
 
 abbrev Inv-loop : tie.InvT-loop
 Inv-loop shared d delay normal₀ n₀ normal n = (n ≤ 36) × (normal ≡ fill (λ n l. crossSum shared delay (placeOf (n % 6)) (placeOf (n / 6))) normal₀ n)

@@ -1,9 +1,9 @@
--- `shared_sums::cross` meets its contract: its five answers are the definition's.
+-- `delay_sums::cross` meets its contract: its five answers are the definition's.
 use borrow.Author.Needs.{needs}
 use borrow.Author.Tests.{lt-ltb, le-ltb, le-leb, lt-leb}
-use Rattle.shared_sums.specs.Shared.{crossSum}
-use Rattle.shared_sums.proofs.cross.Statement.{statement}
-use Rattle.shared_sums.proofs.cross.Tie as tie
+use Rattle.delay_sums.specs.Delays.{crossSum}
+use Rattle.delay_sums.proofs.cross.Statement.{statement}
+use Rattle.delay_sums.proofs.cross.Tie as tie
 
 mul-result : tie.Need-mul-result
 mul-result c = search needs

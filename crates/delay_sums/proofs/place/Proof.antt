@@ -1,10 +1,10 @@
--- `shared_sums::place` meets its contract: its three answers are the definition's.
+-- `delay_sums::place` meets its contract: its three answers are the definition's.
 use native.Mathlib.Omega.{arith}
 use borrow.Author.Needs.{needs}
 use borrow.Author.Tests.{lt-ltb, le-ltb}
-use Rattle.shared_sums.specs.Shared.{placeOf}
-use Rattle.shared_sums.proofs.place.Statement.{statement}
-use Rattle.shared_sums.proofs.place.Tie as tie
+use Rattle.delay_sums.specs.Delays.{placeOf}
+use Rattle.delay_sums.proofs.place.Statement.{statement}
+use Rattle.delay_sums.proofs.place.Tie as tie
 
 returns : tie.Need-returns
 unfolding placeOf
