@@ -26,8 +26,12 @@ fn common_terms(rates: &[f32; 2048], k: usize) -> [f32; 4]
     requires { ⌜ (11 ≤ k) × (k < 2048) ⌝ }
     ensures { λ r. ⌜ r ≡ commonTerms (now (rates .entry)) k ⌝ }
 {
-    let last = rates[k - 1];
-    [last, last - rates[k - 2], 1.0, rates[k] - last]
+    [
+        rates[k - 1],
+        rates[k - 1] - rates[k - 2],
+        1.0,
+        rates[k] - rates[k - 1],
+    ]
 }
 
 // The q-th common term times each.

@@ -25,13 +25,16 @@ sum-shared-requires : tie.Need-sum-shared-requires
 sum-shared-requires c κs = search needs
 
 at-least-one-requires : tie.Need-at-least-one-requires
-at-least-one-requires c κs = within-capacity (c .before .stored .ensures)
+at-least-one-requires c κs = let w = c .before .stored .ensures in omega (arith, within-capacity w, few-rows w (c .sum-shared .ensures))
 
 sum-rows-dt-requires : tie.Need-sum-rows-dt-requires
 sum-rows-dt-requires c κs = search needs
 
 at-least-one-requires-2 : tie.Need-at-least-one-requires-2
-at-least-one-requires-2 c κs = few-rows (c .before .before .before .stored .ensures) (c .before .before .sum-shared .ensures)
+at-least-one-requires-2 c κs =
+    let s = c .before .before in
+    let w = s .before .stored .ensures in
+    omega (arith, within-capacity w, few-rows w (s .sum-shared .ensures))
 
 solve-delays-requires : tie.Need-solve-delays-requires
 solve-delays-requires c κs = search needs
