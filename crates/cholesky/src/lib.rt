@@ -1,7 +1,8 @@
 // Cholesky's factor of six equations in six unknowns, and the two solves with it. A matrix stands column after column.
 ghost use mathlib.Core.Path.{_≡_};
 ghost use Prim.Native.Nat.{_<_};
-ghost use Rattle.cholesky.specs.Cholesky.{entryAt, reduced, factorEntry, factor, above, forwardEntry, forward, backwardEntry, backward};
+ghost use Rattle.cholesky.specs.Cholesky.{entryAt, reduced, factorEntry, forwardEntry, forward, backwardEntry, backward};
+ghost use Rattle.cholesky.specs.ColumnOrder.{Factored, Tested};
 
 // ---- the factor
 
@@ -42,7 +43,7 @@ fn factor_entry(a: &[f32; 36], l: &[f32; 36], i: usize, j: usize) -> f32
 
 // Cholesky's factor of a matrix, column after column.
 pub fn factored(a: &[f32; 36]) -> [f32; 36]
-    ensures { λ r. ⌜ r ≡ factor (now (a .entry)) ⌝ }
+    ensures { λ r. ⌜ Factored (now (a .entry)) r ⌝ }
 {
     let mut l = [0.0f32; 36];
     for n in 0..36 {
@@ -53,7 +54,7 @@ pub fn factored(a: &[f32; 36]) -> [f32; 36]
 
 // Whether every diagonal is above 0 where its root is taken.
 pub fn diagonals_above_zero(a: &[f32; 36], l: &[f32; 36]) -> bool
-    ensures { λ r. ⌜ r ≡ above (now (a .entry)) (now (l .entry)) 6 ⌝ }
+    ensures { λ r. ⌜ Tested (now (a .entry)) (now (l .entry)) r ⌝ }
 {
     let mut ok = true;
     for j in 0..6 {

@@ -1,1 +1,1 @@
-pub mod ColumnOrder
+pub mod Diagonals

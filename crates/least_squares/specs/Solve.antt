@@ -1,15 +1,17 @@
 -- One delay's least squares, from its sums: 01, "The recorded fit".
-use Prim.Native.Nat.{ℕ, zero, suc}
+use Prim.Native.Nat.{ℕ, zero, suc, _<_}
+use mathlib.Core.Path.{_≡_}
 use mathlib.Core.Bool.{Bool, true, false, _&&_}
 use mathlib.Core.List.{List}
-use lib.Ieee.{Float, binary32, sub}
-use Rattle.float.specs.Values.{finite, maxZero}
+use lib.Ieee.{Float, binary32, sub, lt}
+use Rattle.float.specs.Values.{zero32, finite, maxZero}
 use Rattle.float.specs.Series.{at, dotTo}
 use Rattle.least_squares.specs.declared.Sums.{Sums}
 use Rattle.least_squares.specs.declared.Solution.{Solution}
 use Rattle.least_squares.specs.declared.Solved.{Solved}
 use Rattle.least_squares.specs.declared.Solved.the-variants.{NoFit, Fit}
-use Rattle.cholesky.specs.Cholesky.{factor, above, forward, backward}
+use Rattle.cholesky.specs.Cholesky.{entryAt, factor, above, forward, backward}
+use Rattle.cholesky.specs.ColumnOrder.{testedDiagonal}
 
 -- "Dots run left to right"
 unfoldable pub dot : List Float → List Float → Float
@@ -46,3 +48,8 @@ solveWith l a b squared = solveIf (above a l 6) l b squared
 
 unfoldable pub solve : Sums → Solved
 solve s = solveWith (factor (s .normal)) (s .normal) (s .projected) (s .«target_squared»)
+
+-- r is the solution, and none where a diagonal, in 01's own column order, is not above 0: "A diagonal not above 0 (NaN too): no fit"
+pub record IsSolved (s : Sums) (r : Solved) : Type 0 where
+  pub is : r ≡ solve s
+  pub no-fit : (j : ℕ) → j < 6 → lt zero32 (testedDiagonal (entryAt (s .normal)) j) ≡ false → r ≡ NoFit

@@ -1,6 +1,6 @@
 // Least squares in six terms, from its sums: the normal equations solved, and the residual.
 ghost use mathlib.Core.Path.{_≡_};
-ghost use Rattle.least_squares.specs.Solve.{dot, allFinite, kept, solve as solved};
+ghost use Rattle.least_squares.specs.Solve.{dot, allFinite, kept, IsSolved};
 
 // The sums of one delay's least squares over its rows.
 pub struct Sums {
@@ -67,7 +67,7 @@ fn fit_if_finite(s: &[f32; 6], residual: f32) -> Solved
 impl Sums {
     // The least-squares solution and its residual. No fit where the normal equations do not factor or a value is not finite.
     pub fn solve(self) -> Solved
-        ensures { λ r. ⌜ r ≡ solved self ⌝ }
+        ensures { λ r. ⌜ IsSolved self r ⌝ }
     {
         let normal = self.normal;
         let projected = self.projected;

@@ -1,21 +1,27 @@
 -- The recorded fit of the first `len` samples is that of the whole arrays at the stored count.
-use Prim.Native.Nat.{ℕ, zero, suc, _+_, _≤_, min}
-use mathlib.Core.Path.{_≡_, ap, fun-ext}
+use Prim.Native.Nat.{ℕ, zero, suc, _+_, _<_, _≤_, min}
+use mathlib.Core.Path.{_≡_, refl, ap, _∙_}
 use mathlib.Core.Bool.{Bool}
 use mathlib.Core.List.{List, [], _∷_}
-use native.Mathlib.Nat.{zero-min, suc-min-suc, min-le-right}
+use native.Mathlib.Nat.{zero-min, suc-min-suc, min-le-right, min-eq-left}
 use native.Mathlib.Omega.{arith}
 use lib.ListN.{length, take}
 use lib.Seq.{take-nil, length-take-le}
-use lib.Ieee.{Float}
+use lib.Ieee.{Float, binary32, div}
 use Rattle.window.specs.Samples.{capacity}
 use Rattle.window.specs.Walk.{many, isRow}
+use Rattle.window.specs.Arrays.{manyTo, tallyTo}
 use Rattle.window.proofs.Prefix.{many-take}
-use Rattle.delay.specs.Tie.{delayToFit}
-use Rattle.rows.specs.Rows.{noSums}
+use Rattle.window.proofs.Tallies.{few}
+use Rattle.rows.specs.Rows.{lengthWithin, noSums}
 use Rattle.rows.proofs.Prefix.{window-take, sum-take}
-use Rattle.recorded.specs.Classify.{tieShare, entries, solvedAt, rowsDt, fitOf, fitRecorded}
-use Rattle.recorded.specs.Stages.{Stored, solvedBelow, rowsBelow, rowsDtBelow}
+use Rattle.rows.proofs.Together.{alike}
+use Rattle.shared_sums.specs.declared.SharedSums.{SharedSums}
+use Rattle.shared_sums.specs.Shared.{sharedSums}
+use Rattle.delay_sums.proofs.Same.{delay-is}
+use Rattle.recorded.specs.Classify.{tieShare, maxDelay, atLeastOne, solvedAt, rowsDt, fitRecorded}
+use Rattle.recorded.specs.Stages.{Stored, solvedFrom, rowsDtFrom, fitFrom}
+use Rattle.recorded.proofs.Winner.{entries-by, fit-by}
 
 module _ {A : Type 0} where
   take-min : (n : ℕ) (l : List A) → take n l ≡ take (min n (length l)) l
@@ -49,22 +55,34 @@ module _ {rates moments : List Float} {marks : List Bool} {len n : ℕ} (w : Sto
   many-marks : length (take n marks) ≡ n
   many-marks = cut-length marks len n (w .all-marks) (w .is)
 
-  solved-cut : (k : ℕ) → solvedAt (take len rates) (take len moments) (take len marks) k ≡ solvedBelow rates moments marks n k
-  unfolding solvedAt solvedBelow
-  solved-cut k =
-      let p : 1 ≤ k + 1 = omega arith in
-      rw (rates-cut, moments-cut, marks-cut, many-rates, window-take rates moments marks n (k + 1) noSums p)
+  module _ {shared : SharedSums} (e : shared ≡ sharedSums rates moments marks (lengthWithin n)) where
+    shared-is : shared ≡ sharedSums rates moments marks n
+    shared-is = e ∙ ap (sharedSums rates moments marks) (min-eq-left within-capacity)
 
-  rows-cut : many isRow (take len marks) ≡ rowsBelow marks n
-  rows-cut = rw marks-cut (many-take isRow marks n many-marks)
+    rows-is : shared .rows ≡ manyTo isRow marks n
+    unfolding sharedSums
+    rows-is = rw shared-is
 
-  dt-cut : (duration : Float) → rowsDt (take len marks) (length (take len rates)) duration ≡ rowsDtBelow marks n duration
-  unfolding rowsDt rowsDtBelow
-  dt-cut duration = rw (rows-cut, rates-cut, many-rates, marks-cut, sum-take)
+    pub few-rows : shared .rows ≤ capacity
+    unfolding tallyTo
+    few-rows = omega (arith, rows-is, few marks n .rows, within-capacity)
 
-  pub fit-cut : (duration : Float) → fitRecorded (take len rates) (take len moments) (take len marks) duration
-      ≡ fitOf (delayToFit tieShare (entries (solvedBelow rates moments marks n))) (solvedBelow rates moments marks n) (rowsDtBelow marks n duration) (rowsBelow marks n)
-  unfolding fitRecorded
-  fit-cut duration =
-      let s : solvedAt (take len rates) (take len moments) (take len marks) ≡ solvedBelow rates moments marks n = fun-ext solved-cut in
-      rw (s, dt-cut duration, rows-cut)
+    solved-cut : (k : ℕ) → k < maxDelay → solvedAt (take len rates) (take len moments) (take len marks) k ≡ solvedFrom shared k
+    unfolding solvedAt solvedFrom
+    solved-cut k h =
+        let p : 1 ≤ k + 1 = omega arith in
+        let q : k + 1 ≤ 10 = omega arith in
+        rw (shared-is, rates-cut, moments-cut, marks-cut, many-rates, window-take rates moments marks n (k + 1) noSums p, delay-is rates moments marks (k + 1) n p q)
+
+    rows-cut : many isRow (take len marks) ≡ shared .rows
+    unfolding manyTo
+    rows-cut = rw (rows-is, marks-cut) (many-take isRow marks n many-marks)
+
+    dt-cut : (duration : Float) → rowsDt (take len marks) (length (take len rates)) duration ≡ rowsDtFrom shared n duration
+    unfolding rowsDt rowsDtFrom
+    dt-cut duration = rw (rows-cut, rates-cut, many-rates, marks-cut, sum-take, alike marks (div binary32 duration (atLeastOne n)) n, rows-is)
+
+    pub fit-cut : (duration : Float) → fitRecorded (take len rates) (take len moments) (take len marks) duration ≡ fitFrom shared n duration
+    unfolding fitRecorded fitFrom
+    fit-cut duration =
+        rw (entries-by _ (solvedFrom shared) solved-cut, dt-cut duration, rows-cut) (fit-by _ (solvedFrom shared) solved-cut tieShare _ _ _ refl)

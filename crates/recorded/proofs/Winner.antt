@@ -1,6 +1,6 @@
 -- The tie rule's list has the ten delays and nothing after them, so that the position that wins is a delay, 1 to 10.
 use Prim.Native.Nat.{ℕ, zero, suc, _+_, _-_, _<_, _≤_}
-use mathlib.Core.Path.{_≡_, refl, sym, _∙_}
+use mathlib.Core.Path.{_≡_, refl, sym, ap, _∙_}
 use mathlib.Core.Bool.{Bool, true, false}
 use mathlib.Core.List.{List}
 use native.Mathlib.Omega.{arith}
@@ -8,16 +8,16 @@ use borrow.Author.Tests.{leb-true, leb-false}
 use lib.Dec.{leb}
 use lib.ListN.{getD, replicate}
 use lib.Ieee.{Float}
-use Rattle.float.specs.Series.{fill}
 use Rattle.delay.specs.declared.Entry.{Entry}
 use Rattle.delay.specs.declared.Entry.the-variants as entry
-use Rattle.delay.specs.declared.Position.the-variants.{At}
+use Rattle.delay.specs.declared.Position.{Position}
+use Rattle.delay.specs.declared.Position.the-variants.{Nowhere, At}
 use Rattle.delay.specs.Tie.{entryCount, delayToFit}
 use Rattle.delay.proofs.Winner.{won}
 use Rattle.least_squares.specs.declared.Solved.{Solved}
 use Rattle.least_squares.specs.declared.Solved.the-variants.{NoFit}
-use Rattle.float.proofs.Fill.{fill-at, unfilled}
-use Rattle.recorded.specs.Classify.{maxDelay, entryOf, entries}
+use Rattle.float.proofs.Fill.{fill-at, fill-same, unfilled}
+use Rattle.recorded.specs.Classify.{maxDelay, entryOf, entries, fitOf}
 use Rattle.recorded.specs.Stages.{solvedList}
 
 all-alike : {A : Type 0} (z : A) (n k : ℕ) → getD (replicate n z) k z ≡ z
@@ -39,15 +39,9 @@ module _ (f : ℕ → Solved) where
   none-after k h = unfilled (λ n l. entryOf (f n)) (replicate entryCount entry.Missing) entry.Missing maxDelay k h ∙ all-alike entry.Missing entryCount k
 
   -- two functions that agree on the delays give one list of entries
-  filled-by : (g : ℕ → Solved) → ((k : ℕ) → k < maxDelay → f k ≡ g k) → (n : ℕ) → n ≤ maxDelay
-      → fill (λ n l. entryOf (f n)) (replicate entryCount entry.Missing) n ≡ fill (λ n l. entryOf (g n)) (replicate entryCount entry.Missing) n
-  unfolding fill
-  filled-by g h zero l = refl
-  filled-by g h (suc n) l = let m : n ≤ maxDelay = omega arith in rw (h n l, filled-by g h n m)
-
   pub entries-by : (g : ℕ → Solved) → ((k : ℕ) → k < maxDelay → f k ≡ g k) → entries f ≡ entries g
   unfolding entries
-  entries-by g h = filled-by g h maxDelay (omega arith)
+  entries-by g h = fill-same (λ n l. entryOf (f n)) (λ n l. entryOf (g n)) _ maxDelay (λ k l p. ap entryOf (h k p))
 
   -- the entries made from the list of fits are those of the delays' fits
   pub entries-read : {fits : List Solved} {list : List Entry} → fits ≡ solvedList f → list ≡ entries (λ k. getD fits k NoFit) → list ≡ entries f
@@ -59,3 +53,12 @@ module _ (f : ℕ → Solved) where
 
   pub is-a-delay : (share : Float) (p : ℕ) → delayToFit share (entries f) ≡ At p → (1 ≤ p) × (p ≤ maxDelay)
   is-a-delay share p e = let w = won share (entries f) p e in (w .from-one, bounded p (w .there) (leb p maxDelay) refl)
+
+-- the fit of the position that wins reads the delays' fits alone
+pub fit-by : (f g : ℕ → Solved) → ((k : ℕ) → k < maxDelay → f k ≡ g k) → (share dt : Float) (rows : ℕ) (q : Position) → delayToFit share (entries g) ≡ q → fitOf q f dt rows ≡ fitOf q g dt rows
+unfolding fitOf
+fit-by f g h share dt rows Nowhere e = refl
+fit-by f g h share dt rows (At p) e =
+    let w = is-a-delay g share p e in
+    let l : p - 1 < maxDelay = omega (arith, w .0, w .1) in
+    rw (h (p - 1) l)

@@ -2,19 +2,21 @@
 ghost use mathlib.Core.Path.{_≡_};
 ghost use Prim.Native.Nat.{_≤_};
 ghost use lib.ListN.{length, getD, take};
-ghost use Rattle.float.specs.Values.{zero32, whole32};
+ghost use lib.Ieee.{binary32};
+ghost use Rattle.float.specs.Values.{whole32};
+ghost use Rattle.float.specs.Series.{sumTo};
 ghost use Rattle.delay.specs.Tie.{entryCount};
 ghost use Rattle.window.specs.Samples.{capacity};
 ghost use Rattle.least_squares.specs.declared.Solved.the-variants.{NoFit};
-ghost use Rattle.rows.specs.Rows.{sumRows};
 ghost use Rattle.recorded.specs.Classify.{atLeastOne, entryOf, entries as entriesOf, modelOf, fitAt, fitRecorded, atRail, countAtRail, saturated as saturatedBy, classify as classOfWindow};
-ghost use Rattle.recorded.specs.Stages.{Stored, solvedBelow, solvedList, rowsBelow};
+ghost use Rattle.recorded.specs.Stages.{Stored, solvedFrom, solvedList};
 use delay::Delay;
 use delay::Entry;
 use delay::Position;
 use delay::RateModel;
 use least_squares::Solution;
 use least_squares::Solved;
+use shared_sums::SharedSums;
 
 // The recorded fit of a window: its model, and what it leaves unexplained, as an RMS a tick in rad/s.
 pub enum RecordedFit {
@@ -41,19 +43,17 @@ const SATURATED_SHARE: f32 = 0.2;
 
 // ---- what is stored
 
-// How many samples the arrays hold. Taking them by value tells their lengths; compiled, nothing is copied.
-fn room(rates: [f32; 2048], moments: [f32; 2048], held: [bool; 2048]) -> usize
-    ensures { λ r. ⌜ (r ≡ capacity) × (length rates ≡ capacity) × (length moments ≡ capacity) × (length held ≡ capacity) ⌝ }
-{
-    2048
-}
+// Taking the arrays by value tells their lengths; compiled, nothing is copied.
+fn are_whole(rates: [f32; 2048], moments: [f32; 2048], held: [bool; 2048])
+    ensures { λ _. ⌜ (length rates ≡ capacity) × (length moments ≡ capacity) × (length held ≡ capacity) ⌝ }
+{}
 
 // How many samples of a window are stored: `len`, and never more than the arrays hold.
 fn stored(rates: &[f32; 2048], moments: &[f32; 2048], held: &[bool; 2048], len: usize) -> usize
     ensures { λ r. ⌜ Stored (now (rates .entry)) (now (moments .entry)) (now (held .entry)) len r ⌝ }
 {
-    let most = room(*rates, *moments, *held);
-    if len < most { len } else { most }
+    are_whole(*rates, *moments, *held);
+    rows::length_within(len)
 }
 
 // A whole number as f32, which holds those of a window exactly.
@@ -75,36 +75,12 @@ fn at_least_one(n: usize) -> f32
     whole(n)
 }
 
-// ---- the rows
-
-fn count_rows(held: &[bool; 2048], n: usize) -> usize
-    requires { ⌜ n ≤ capacity ⌝ }
-    ensures { λ r. ⌜ (r ≡ rowsBelow (now (held .entry)) n) × (r ≤ n) ⌝ }
-{
-    let mut rows = 0;
-    let mut run = 0;
-    for k in 0..n {
-        run = rows::next_run(held[k], run);
-        if run < rows::HISTORY {
-            continue;
-        }
-        rows = rows + 1;
-    }
-    rows
-}
-
 // The sum of the rows' dt_s, each of them `dt_s`.
-fn sum_rows_dt(held: &[bool; 2048], n: usize, dt_s: f32) -> f32
-    requires { ⌜ n ≤ capacity ⌝ }
-    ensures { λ r. ⌜ r ≡ sumRows (now (held .entry)) n (λ k. «dt_s») zero32 ⌝ }
+fn sum_rows_dt(rows: usize, dt_s: f32) -> f32
+    ensures { λ r. ⌜ r ≡ sumTo binary32 (λ k. «dt_s») rows ⌝ }
 {
     let mut sum = 0.0f32;
-    let mut run = 0;
-    for k in 0..n {
-        run = rows::next_run(held[k], run);
-        if run < rows::HISTORY {
-            continue;
-        }
+    for _ in 0..rows {
         sum = sum + dt_s;
     }
     sum
@@ -112,19 +88,12 @@ fn sum_rows_dt(held: &[bool; 2048], n: usize, dt_s: f32) -> f32
 
 // ---- the fits of all delays
 
-fn solve_delays(
-    rates: &[f32; 2048],
-    moments: &[f32; 2048],
-    held: &[bool; 2048],
-    n: usize,
-) -> [Solved; 10]
-    requires { ⌜ n ≤ capacity ⌝ }
-    ensures { λ r. ⌜ r ≡ solvedList (solvedBelow (now (rates .entry)) (now (moments .entry)) (now (held .entry)) n) ⌝ }
+fn solve_delays(shared: SharedSums) -> [Solved; 10]
+    ensures { λ r. ⌜ r ≡ solvedList (solvedFrom shared) ⌝ }
 {
-    let shared = shared_sums::sum_shared(rates, moments, held, n);
     let mut fits = [Solved::NoFit; 10];
     for k in 0..10 {
-        fits[k] = shared_sums::delay_sums(shared, k + 1).solve();
+        fits[k] = delay_sums::delay_sums(shared, k + 1).solve();
     }
     fits
 }
@@ -192,9 +161,10 @@ pub fn fit_recorded(
     ensures { λ r. ⌜ r ≡ fitRecorded (take len (now (rates .entry))) (take len (now (moments .entry))) (take len (now (held .entry))) «duration_s» ⌝ }
 {
     let n = stored(rates, moments, held, len);
-    let rows = count_rows(held, n);
-    let dt_s = sum_rows_dt(held, n, duration_s / at_least_one(n)) / at_least_one(rows);
-    let fits = solve_delays(rates, moments, held, n);
+    let shared = shared_sums::sum_shared(rates, moments, held, n);
+    let rows = shared.rows;
+    let dt_s = sum_rows_dt(rows, duration_s / at_least_one(n)) / at_least_one(rows);
+    let fits = solve_delays(shared);
     match delay::delay_to_fit(entries(fits), TIE_SHARE) {
         Position::Nowhere => RecordedFit::NoFit,
         Position::At(p) => {

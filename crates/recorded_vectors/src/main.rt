@@ -136,7 +136,7 @@ fn sums_agree(s: &[u8]) -> bool {
         let expected = sums(part(answers, k * 172, 172));
         let alone = rows::add_window(&rates, &moments, &held, n, k + 1, rows::no_sums());
         ok = ok & same_sums(alone, expected);
-        ok = ok & same_sums(shared_sums::delay_sums(shared, k + 1), expected);
+        ok = ok & same_sums(delay_sums::delay_sums(shared, k + 1), expected);
     }
     ok
 }

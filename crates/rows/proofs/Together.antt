@@ -4,7 +4,10 @@ use mathlib.Core.Path.{_≡_, refl, sym, _∙_}
 use mathlib.Core.Bool.{Bool, true, false, cond}
 use mathlib.Core.List.{List}
 use lib.Ieee.{Float, binary32, add, mul}
+use Rattle.float.specs.Values.{zero32}
+use Rattle.float.specs.Series.{sumTo}
 use Rattle.window.specs.Walk.{run, over, markAt, isRow}
+use Rattle.window.specs.Arrays.{manyTo}
 use Rattle.least_squares.specs.declared.Sums.{Sums}
 use Rattle.rows.specs.Rows.{target, regressors, product, projection, each, sumRows, sumsBy, windowSums}
 use Rattle.rows.proofs.Walked.{each-over}
@@ -19,6 +22,11 @@ module _ {S P : Type 0} (such : Bool → ℕ → Bool) (mark : ℕ → Bool) (f 
   unfolding over
   part-over s zero = refl
   part-over s (suc n) = turn (such (mark n) (run mark n)) (over such mark f s n) n ∙ rw (part-over s n)
+
+-- one number summed over the rows is added as often as there are rows
+pub alike : (marks : List Bool) (x : Float) (n : ℕ) → sumRows marks n (λ k. x) zero32 ≡ sumTo binary32 (λ k. x) (manyTo isRow marks n)
+unfolding sumRows manyTo sumTo
+alike marks x n = sym (part-over isRow (markAt marks) (λ (m k : ℕ). suc m) (λ (s : Float) (k : ℕ). add binary32 s x) (sumTo binary32 (λ k. x)) (λ m k. refl) 0 n)
 
 abbrev pub sumsOf : List Float → List Float → Float → Sums
 sumsOf n p t = record { normal = n; projected = p; «target_squared» = t }

@@ -1,13 +1,26 @@
 -- The rows of the recorded fit and their sums: 01, "The recorded fit". A window is its rates, moments and held marks by tick.
-use Prim.Native.Nat.{ℕ, zero, suc, _+_, _-_, _/_, _%_}
-use mathlib.Core.Bool.{Bool}
+use Prim.Native.Nat.{ℕ, zero, suc, _+_, _-_, _/_, _%_, min, max}
+use mathlib.Core.Bool.{Bool, cond}
 use mathlib.Core.List.{List, [], _∷_, foldl}
 use lib.ListN.{replicate}
 use lib.Ieee.{Float, binary32, add, sub, mul}
 use Rattle.float.specs.Values.{zero32, one32}
 use Rattle.float.specs.Series.{at}
+use Rattle.window.specs.Samples.{capacity}
 use Rattle.window.specs.Walk.{over, isRow, markAt}
 use Rattle.least_squares.specs.declared.Sums.{Sums}
+
+-- a length of a window's arrays, which hold 2,048
+abbrev pub lengthWithin : ℕ → ℕ
+lengthWithin len = min len capacity
+
+-- "Delay d is 1 to 10": what is outside is read as the nearest of them
+abbrev pub delayWithin : ℕ → ℕ
+delayWithin d = max 1 (min d 10)
+
+-- how many good ticks stand in a row once a tick with this mark is counted, to 12: "at least the 12th of its run"
+abbrev pub nextRun : Bool → ℕ → ℕ
+nextRun held run = cond held 0 (min (suc run) 12)
 
 -- "target rate(k) - rate(k-1)"
 unfoldable pub target : List Float → ℕ → Float

@@ -1,24 +1,41 @@
 // The rows of the recorded fit, and one delay's sums over them.
 ghost use mathlib.Core.Path.{_≡_};
-ghost use mathlib.Core.Bool.{cond};
-ghost use Prim.Native.Nat.{suc, _+_, _≤_, _<_};
+ghost use Prim.Native.Nat.{_≤_, _<_};
 ghost use lib.Ieee.{binary32, add};
-ghost use Rattle.rows.specs.Rows.{regressors as regressorsOf, product, projection, each, windowSums, noSums};
+ghost use Rattle.rows.specs.Rows.{lengthWithin, delayWithin, nextRun, regressors as regressorsOf, product, projection, each, windowSums, noSums};
 use least_squares::Sums;
 
 // Good ticks in a row from which a tick makes a row: the longest delay's last moment stands eleven ticks before it.
 pub const HISTORY: usize = 12;
 
-// How many good ticks stand in a row once a tick with this mark is counted: a held one empties the history.
-// Open for the shared sums and the recorded fit only.
+// A length of a window's arrays: what is past their end is not there.
+pub fn length_within(len: usize) -> usize
+    ensures { λ r. ⌜ r ≡ lengthWithin len ⌝ }
+{
+    if len < 2048 { len } else { 2048 }
+}
+
+// A delay of the fit: the one of 1 to 10 that is nearest.
+pub fn delay_within(d: usize) -> usize
+    ensures { λ r. ⌜ r ≡ delayWithin d ⌝ }
+{
+    if d < 1 {
+        return 1;
+    }
+    if d < 10 { d } else { 10 }
+}
+
+// How many good ticks stand in a row once a tick with this mark is counted: a held one empties the history. Counted to 12.
 pub fn next_run(held: bool, run: usize) -> usize
-    requires { ⌜ run < 2048 ⌝ }
-    ensures { λ r. ⌜ (r ≡ cond held 0 (suc run)) × (r ≤ run + 1) ⌝ }
+    ensures { λ r. ⌜ r ≡ nextRun held run ⌝ }
 {
     if held {
         return 0;
     }
-    run + 1
+    if run < HISTORY {
+        return run + 1;
+    }
+    HISTORY
 }
 
 // The six terms of tick k's row at delay d.
@@ -64,9 +81,7 @@ pub fn no_sums() -> Sums
     }
 }
 
-// The sums of delay d with the rows of a window's first `len` ticks added, in tick order. Asked at a window's own
-// length and a delay of the fit.
-// Open for the program that replays sums only.
+// The sums of delay d with the rows of a window's first `len` ticks added, in tick order.
 pub fn add_window(
     rates: &[f32; 2048],
     moments: &[f32; 2048],
@@ -75,19 +90,20 @@ pub fn add_window(
     d: usize,
     start: Sums,
 ) -> Sums
-    requires { ⌜ (len ≤ 2048) × (1 ≤ d) × (d ≤ 10) ⌝ }
-    ensures { λ r. ⌜ r ≡ windowSums (now (rates .entry)) (now (moments .entry)) (now (held .entry)) len d start ⌝ }
+    ensures { λ r. ⌜ r ≡ windowSums (now (rates .entry)) (now (moments .entry)) (now (held .entry)) (lengthWithin len) (delayWithin d) start ⌝ }
 {
+    let ticks = length_within(len);
+    let delay = delay_within(d);
     let mut normal = start.normal;
     let mut projected = start.projected;
     let mut target_squared = start.target_squared;
     let mut run = 0;
-    for k in 0..len {
+    for k in 0..ticks {
         run = next_run(held[k], run);
         if run < HISTORY {
             continue;
         }
-        let terms = regressors(rates, moments, d, k);
+        let terms = regressors(rates, moments, delay, k);
         let target = rates[k] - rates[k - 1];
         add_products(&mut normal, &terms);
         add_projections(&mut projected, &terms, target);

@@ -1,11 +1,10 @@
-// The sums over a window's rows that the delays share, and each delay's sums from them.
+// The sums over a window's rows that the delays share.
 ghost use mathlib.Core.Path.{_≡_};
 ghost use Prim.Native.Nat.{_*_, _-_, _≤_, _<_};
 ghost use lib.Ieee.{binary32, add};
 ghost use Rattle.float.specs.Series.{at};
-ghost use Rattle.rows.specs.Rows.{each};
-ghost use Rattle.shared_sums.specs.Shared.{commonTerms, commonProduct, laggedProduct, pairProduct, commonSums, laggedSums, pairSums, sharedSums, pairAt, crossSum, placeOf, delaySums, fillFrom};
-use least_squares::Sums;
+ghost use Rattle.rows.specs.Rows.{lengthWithin, each};
+ghost use Rattle.shared_sums.specs.Shared.{commonTerms, commonProduct, laggedProduct, pairProduct, sharedSums, fillFrom};
 
 // The sums over a window's rows that its delays share. The four common terms of a row are its last rate, that rate's change, 1 and the target.
 pub struct SharedSums {
@@ -17,16 +16,22 @@ pub struct SharedSums {
     pub pairs0: [f32; 12],
     pub pairs1: [f32; 12],
     pub pairs2: [f32; 12],
+    // How many rows there are.
+    pub rows: usize,
 }
 
-// ---- the sums that the delays share
+// ---- a row's products
 
 fn common_terms(rates: &[f32; 2048], k: usize) -> [f32; 4]
     requires { ⌜ (11 ≤ k) × (k < 2048) ⌝ }
     ensures { λ r. ⌜ r ≡ commonTerms (now (rates .entry)) k ⌝ }
 {
-    let last = rates[k - 1];
-    [last, last - rates[k - 2], 1.0, rates[k] - last]
+    [
+        rates[k - 1],
+        rates[k - 1] - rates[k - 2],
+        1.0,
+        rates[k] - rates[k - 1],
+    ]
 }
 
 // The q-th common term times each.
@@ -46,23 +51,6 @@ fn add_common(sums: &mut [f32; 16], terms: &[f32; 4])
     for q in 0..4 {
         add_common_to(&mut *sums, terms, q);
     }
-}
-
-fn sum_common(rates: &[f32; 2048], held: &[bool; 2048], len: usize) -> [f32; 16]
-    requires { ⌜ len ≤ 2048 ⌝ }
-    ensures { λ r. ⌜ r ≡ commonSums (now (rates .entry)) (now (held .entry)) len ⌝ }
-{
-    let mut sums = [0.0f32; 16];
-    let mut run = 0;
-    for k in 0..len {
-        run = rows::next_run(held[k], run);
-        if run < rows::HISTORY {
-            continue;
-        }
-        let terms = common_terms(rates, k);
-        add_common(&mut sums, &terms);
-    }
-    sums
 }
 
 // The q-th common term times the twelve last moments.
@@ -85,28 +73,7 @@ fn add_lagged(sums: &mut [f32; 48], terms: &[f32; 4], moments: &[f32; 2048], k: 
     }
 }
 
-fn sum_lagged(
-    rates: &[f32; 2048],
-    moments: &[f32; 2048],
-    held: &[bool; 2048],
-    len: usize,
-) -> [f32; 48]
-    requires { ⌜ len ≤ 2048 ⌝ }
-    ensures { λ r. ⌜ r ≡ laggedSums (now (rates .entry)) (now (moments .entry)) (now (held .entry)) len ⌝ }
-{
-    let mut sums = [0.0f32; 48];
-    let mut run = 0;
-    for k in 0..len {
-        run = rows::next_run(held[k], run);
-        if run < rows::HISTORY {
-            continue;
-        }
-        let terms = common_terms(rates, k);
-        add_lagged(&mut sums, &terms, moments, k);
-    }
-    sums
-}
-
+// Moments that stand o ticks apart.
 fn add_pairs(sums: &mut [f32; 12], moments: &[f32; 2048], o: usize, k: usize)
     requires { ⌜ (11 ≤ k) × (k < 2048) × (o < 3) ⌝ }
     ensures { λ _. ⌜ now (sums .exit) ≡ each (12 - o) (λ j s. add binary32 s (pairProduct (now (moments .entry)) o k j)) (now (sums .entry)) ⌝ }
@@ -116,113 +83,44 @@ fn add_pairs(sums: &mut [f32; 12], moments: &[f32; 2048], o: usize, k: usize)
     }
 }
 
-// Moments that stand o ticks apart.
-fn sum_pairs(moments: &[f32; 2048], held: &[bool; 2048], o: usize, len: usize) -> [f32; 12]
-    requires { ⌜ (len ≤ 2048) × (o < 3) ⌝ }
-    ensures { λ r. ⌜ r ≡ pairSums (now (moments .entry)) (now (held .entry)) o len ⌝ }
-{
-    let mut sums = [0.0f32; 12];
-    let mut run = 0;
-    for k in 0..len {
-        run = rows::next_run(held[k], run);
-        if run < rows::HISTORY {
-            continue;
-        }
-        add_pairs(&mut sums, moments, o, k);
-    }
-    sums
-}
+// ---- all rows
 
-// Open for the recorded fit and its replay only.
+// The rows of a window's first `len` ticks, in tick order, each added to all of the sums.
 pub fn sum_shared(
     rates: &[f32; 2048],
     moments: &[f32; 2048],
     held: &[bool; 2048],
     len: usize,
 ) -> SharedSums
-    requires { ⌜ len ≤ 2048 ⌝ }
-    ensures { λ r. ⌜ r ≡ sharedSums (now (rates .entry)) (now (moments .entry)) (now (held .entry)) len ⌝ }
+    ensures { λ r. ⌜ r ≡ sharedSums (now (rates .entry)) (now (moments .entry)) (now (held .entry)) (lengthWithin len) ⌝ }
 {
-    let common = sum_common(rates, held, len);
-    let lagged = sum_lagged(rates, moments, held, len);
-    let pairs0 = sum_pairs(moments, held, 0, len);
-    let pairs1 = sum_pairs(moments, held, 1, len);
-    let pairs2 = sum_pairs(moments, held, 2, len);
+    let ticks = rows::length_within(len);
+    let mut common = [0.0f32; 16];
+    let mut lagged = [0.0f32; 48];
+    let mut pairs0 = [0.0f32; 12];
+    let mut pairs1 = [0.0f32; 12];
+    let mut pairs2 = [0.0f32; 12];
+    let mut count = 0;
+    let mut run = 0;
+    for k in 0..ticks {
+        run = rows::next_run(held[k], run);
+        if run < rows::HISTORY {
+            continue;
+        }
+        let terms = common_terms(rates, k);
+        add_common(&mut common, &terms);
+        add_lagged(&mut lagged, &terms, moments, k);
+        add_pairs(&mut pairs0, moments, 0, k);
+        add_pairs(&mut pairs1, moments, 1, k);
+        add_pairs(&mut pairs2, moments, 2, k);
+        count = count + 1;
+    }
     SharedSums {
         common: common,
         lagged: lagged,
         pairs0: pairs0,
         pairs1: pairs1,
         pairs2: pairs2,
-    }
-}
-
-// ---- each delay's sums from them
-
-// The place of term i among a row's seven: four common ones, then the moments.
-fn place(i: usize) -> usize
-    requires { ⌜ i < 6 ⌝ }
-    ensures { λ r. ⌜ (r ≡ placeOf i) × (r < 7) ⌝ }
-{
-    if i < 2 {
-        return i;
-    }
-    if i < 5 {
-        return i + 2;
-    }
-    2
-}
-
-fn pair(shared: SharedSums, o: usize, j: usize) -> f32
-    requires { ⌜ j < 12 ⌝ }
-    ensures { λ r. ⌜ r ≡ pairAt shared o j ⌝ }
-{
-    if o == 0 {
-        return shared.pairs0[j];
-    }
-    if o == 1 {
-        return shared.pairs1[j];
-    }
-    shared.pairs2[j]
-}
-
-// The sum of the products at places a and b, at delay d.
-fn cross(shared: SharedSums, d: usize, a: usize, b: usize) -> f32
-    requires { ⌜ (1 ≤ d) × (d ≤ 10) × (a < 7) × (b < 7) ⌝ }
-    ensures { λ r. ⌜ r ≡ crossSum shared d a b ⌝ }
-{
-    if a < 4 {
-        if b < 4 {
-            return shared.common[4 * b + a];
-        }
-        return shared.lagged[12 * a + (d - 1 + (b - 4))];
-    }
-    if b < 4 {
-        return shared.lagged[12 * b + (d - 1 + (a - 4))];
-    }
-    if a <= b {
-        return pair(shared, b - a, d - 1 + (a - 4));
-    }
-    pair(shared, a - b, d - 1 + (b - 4))
-}
-
-// The sums of delay d, as `rows::add_window` makes them from none.
-// Open for the recorded fit and its replay only.
-pub fn delay_sums(shared: SharedSums, d: usize) -> Sums
-    requires { ⌜ (1 ≤ d) × (d ≤ 10) ⌝ }
-    ensures { λ r. ⌜ r ≡ delaySums shared d ⌝ }
-{
-    let mut normal = [0.0f32; 36];
-    for n in 0..36 {
-        normal[n] = cross(shared, d, place(n % 6), place(n / 6));
-    }
-    let mut projected = [0.0f32; 6];
-    for i in 0..6 {
-        projected[i] = cross(shared, d, place(i), 3);
-    }
-    Sums {
-        normal: normal,
-        projected: projected,
-        target_squared: cross(shared, d, 3, 3),
+        rows: count,
     }
 }

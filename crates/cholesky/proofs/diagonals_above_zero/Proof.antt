@@ -5,6 +5,7 @@ use native.Mathlib.Omega.{arith}
 use native.Mathlib.Numerals.{add-one}
 use borrow.Author.Needs.{needs}
 use Rattle.cholesky.specs.Cholesky.{above}
+use Rattle.cholesky.proofs.ColumnOrder.{tested-in-order}
 use Rattle.cholesky.proofs.diagonals_above_zero.Statement.{statement}
 use Rattle.cholesky.proofs.diagonals_above_zero.Tie as tie
 
@@ -32,10 +33,14 @@ loop-less c = search needs
 
 loop-again : tie.Need-loop-again Inv-loop μ-loop
 unfolding above
-loop-again c = (omega arith, rw add-one (cc))
+loop-again c =
+    let l = c .before .before .before .loop in
+    (omega arith, rw (add-one (l .j), ← (l .inv .1), ← (c .before .entry .ensures), ← (c .reduced-entry .ensures)))
 
 returns : tie.Need-returns Inv-loop μ-loop
-returns c = let e : c .before .loop .j ≡ 6 = omega arith in rw e at (c .before .loop .inv .1)
+returns c =
+    let e : c .before .loop .j ≡ 6 = omega arith in
+    tested-in-order _ _ _ (rw e at (c .before .loop .inv .1))
 
 pub diagonals-above-zero-spec : {M : Type 1} → statement M
 diagonals-above-zero-spec =

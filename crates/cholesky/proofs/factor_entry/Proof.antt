@@ -20,14 +20,18 @@ root-requires c κs = search needs
 
 returns-2 : tie.Need-returns-2
 unfolding factorEntry
-returns-2 c = simp (le-ltb _ _ (c .before .before .before .before .if1 .left), eq-eqb _ _ (c .before .if2 .taken)) (cc)
+returns-2 c =
+    let e = c .before .before in
+    simp (le-ltb _ _ (e .before .before .if1 .left), eq-eqb _ _ (c .before .if2 .taken)) (rw (← (e .before .entry .ensures), ← (e .reduced-entry .ensures)) (c .root .ensures))
 
 entry-requires-2 : tie.Need-entry-requires-2
 entry-requires-2 c κs = search needs
 
 returns-3 : tie.Need-returns-3
 unfolding factorEntry
-returns-3 c = simp (le-ltb _ _ (c .before .before .before .before .if1 .left), ne-eqb _ _ (c .before .if2 .left)) (cc)
+returns-3 c =
+    let e = c .before .before in
+    simp (le-ltb _ _ (e .before .before .if1 .left), ne-eqb _ _ (c .before .if2 .left)) (rw (← (e .before .entry .ensures), ← (e .reduced-entry .ensures), ← (c .entry2 .ensures)))
 
 pub factor-entry-spec : {M : Type 1} → statement M
 factor-entry-spec =

@@ -8,6 +8,8 @@ use lib.ListN.{replicate}
 use Rattle.float.specs.Values.{zero32}
 use Rattle.float.specs.Series.{fill}
 use Rattle.cholesky.specs.Cholesky.{factorEntry, factor}
+use Rattle.float.proofs.Fill.{fill-more}
+use Rattle.cholesky.proofs.ColumnOrder.{in-order}
 use Rattle.cholesky.proofs.factored.Statement.{statement}
 use Rattle.cholesky.proofs.factored.Tie as tie
 
@@ -37,12 +39,11 @@ loop-less : tie.Need-loop-less Inv-loop μ-loop
 loop-less c = search needs
 
 loop-again : tie.Need-loop-again Inv-loop μ-loop
-unfolding fill
-loop-again c = (omega arith, rw add-one (cc))
+loop-again c = let l = c .before .before .before .loop in (omega arith, fill-more _ _ _ (l .n) _ _ (l .inv .1) (c .factor-entry .ensures) (add-one (l .n)))
 
 returns : tie.Need-returns Inv-loop μ-loop
 unfolding factor
-returns c = let e : c .before .loop .n ≡ 36 = omega arith in rw e at (c .before .loop .inv .1)
+returns c = let e : c .before .loop .n ≡ 36 = omega arith in in-order _ _ (rw e at (c .before .loop .inv .1))
 
 pub factored-spec : {M : Type 1} → statement M
 factored-spec =

@@ -42,7 +42,9 @@ loop-less c = search needs
 
 loop-again : tie.Need-loop-again Inv-loop μ-loop
 unfolding less
-loop-again c = (omega arith, rw add-one (cc))
+loop-again c =
+    let l = c .before .before .before .loop in
+    (omega arith, rw (add-one (l .k), ← (l .inv .1), ← (c .before .entry .ensures)))
 
 entry-requires-2 : tie.Need-entry-requires-2 Inv-loop μ-loop
 entry-requires-2 c κs = search needs

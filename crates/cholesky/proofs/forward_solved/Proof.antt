@@ -8,6 +8,7 @@ use lib.ListN.{replicate}
 use Rattle.float.specs.Values.{zero32}
 use Rattle.float.specs.Series.{fill}
 use Rattle.cholesky.specs.Cholesky.{forwardEntry, forward}
+use Rattle.float.proofs.Fill.{fill-more}
 use Rattle.cholesky.proofs.forward_solved.Statement.{statement}
 use Rattle.cholesky.proofs.forward_solved.Tie as tie
 
@@ -37,8 +38,7 @@ loop-less : tie.Need-loop-less Inv-loop μ-loop
 loop-less c = search needs
 
 loop-again : tie.Need-loop-again Inv-loop μ-loop
-unfolding fill
-loop-again c = (omega arith, rw add-one (cc))
+loop-again c = let l = c .before .before .before .loop in (omega arith, fill-more _ _ _ (l .i) _ _ (l .inv .1) (c .forward-entry .ensures) (add-one (l .i)))
 
 returns : tie.Need-returns Inv-loop μ-loop
 unfolding forward

@@ -32,7 +32,9 @@ loop-less c = search needs
 
 loop-again : tie.Need-loop-again Inv-loop μ-loop
 unfolding reduced
-loop-again c = (omega arith, rw add-one (cc))
+loop-again c =
+    let l = c .before .before .before .loop in
+    (omega arith, rw (add-one (l .k), ← (l .inv .1), ← (c .before .entry .ensures), ← (c .entry2 .ensures)))
 
 returns : tie.Need-returns Inv-loop μ-loop
 returns c = let e : c .before .loop .k ≡ c .before .before .args .j = omega arith in rw e at (c .before .loop .inv .1)

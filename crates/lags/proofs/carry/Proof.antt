@@ -9,7 +9,7 @@ exp-requires c κs = search needs
 
 returns : tie.Need-returns
 unfolding carryOf
-returns c = c .exp .ensures
+returns c = c .exp .ensures .0
 
 pub carry-spec : {M : Type 1} → statement M
 carry-spec = tie.close (tie.spec exp-requires returns)

@@ -35,7 +35,7 @@ loop-less c = search needs
 
 loop-again : tie.Need-loop-again Inv-loop μ-loop
 unfolding allFinite
-loop-again c = (omega arith, rw add-one (cc))
+loop-again c = let l = c .before .before .before .loop in (omega arith, rw (add-one (l .n), ← (l .inv .1), ← (c .is-finite .ensures)))
 
 returns : tie.Need-returns Inv-loop μ-loop
 returns c = let e : c .before .loop .n ≡ 6 = omega arith in rw e at (c .before .loop .inv .1)

@@ -8,6 +8,7 @@ use lib.ListN.{getD}
 use Rattle.float.specs.Series.{fill}
 use Rattle.recorded.specs.Classify.{entryOf, entries}
 use Rattle.least_squares.specs.declared.Solved.the-variants.{NoFit}
+use Rattle.float.proofs.Fill.{fill-more}
 use Rattle.recorded.proofs.entries.Statement.{statement}
 use Rattle.recorded.proofs.entries.Tie as tie
 
@@ -43,8 +44,7 @@ loop-less : tie.Need-loop-less Inv-loop μ-loop
 loop-less c = search needs
 
 loop-again : tie.Need-loop-again Inv-loop μ-loop
-unfolding fill
-loop-again c = (omega arith, rw add-one (cc))
+loop-again c = let l = c .before .before .before .loop in (omega arith, fill-more _ _ _ (l .k) _ _ (l .inv .1) (c .entry .ensures) (add-one (l .k)))
 
 returns : tie.Need-returns Inv-loop μ-loop
 unfolding entries

@@ -25,7 +25,7 @@ returns c = rw (c .enum-told .given .1)
 
 returns-2 : tie.Need-returns-2
 unfolding fitAt
-returns-2 c = rw (c .before .before .before .before .before .solved .given .1, ← (c .before .before .before .model .ensures), ← (c .before .before .at-least-one .ensures), ← (c .root .ensures))
+returns-2 c = rw (c .before .before .before .before .before .solved .given .1, ← (c .before .before .before .model .ensures), ← (c .before .before .at-least-one .ensures), ← (c .root .ensures .0))
 
 pub fit-spec : {M : Type 1} → statement M
 fit-spec =

@@ -1,29 +1,26 @@
 -- `recorded::solve_delays` meets its contract. The loop's invariant: the fits of the delays before k + 1 are filled in. The measure is the delays left.
--- The sums that a delay takes from the shared ones are its own over the window.
 use Prim.Native.Nat.{_≤_, _-_, _+_}
-use mathlib.Core.Path.{_≡_, refl}
+use mathlib.Core.Path.{_≡_, refl, ap, _∙_}
 use native.Mathlib.Omega.{arith}
 use native.Mathlib.Numerals.{add-one}
 use borrow.Author.Needs.{needs}
 use Rattle.float.specs.Series.{fill}
-use Rattle.shared_sums.specs.Shared.{sharedSums}
-use Rattle.shared_sums.proofs.Shared.{delay-is}
-use Rattle.recorded.specs.Stages.{solvedBelow, solvedList}
+use Rattle.float.proofs.Fill.{fill-more}
+use Rattle.least_squares.specs.Solve.{solve}
+use Rattle.rows.specs.Rows.{delayWithin}
+use Rattle.recorded.specs.Stages.{solvedFrom, solvedList}
 use Rattle.recorded.proofs.solve_delays.Statement.{statement}
 use Rattle.recorded.proofs.solve_delays.Tie as tie
 
 abbrev Inv-loop : tie.InvT-loop
-Inv-loop rates moments held n shared fits₀ k₀ fits k = (k ≤ 10) × (shared ≡ sharedSums rates moments held n) × (fits ≡ fill (λ j l. solvedBelow rates moments held n j) fits₀ k)
+Inv-loop shared fits₀ k₀ fits k = (k ≤ 10) × (fits ≡ fill (λ j l. solvedFrom shared j) fits₀ k)
 
 abbrev μ-loop : tie.MeasureT-loop
-μ-loop rates moments held n shared fits₀ k₀ fits k = 10 - k
-
-sum-shared-requires : tie.Need-sum-shared-requires Inv-loop μ-loop
-sum-shared-requires c κs = search needs
+μ-loop shared fits₀ k₀ fits k = 10 - k
 
 loop-holds : tie.Need-loop-holds Inv-loop μ-loop
 unfolding fill
-loop-holds c = (omega arith, c .sum-shared .ensures, refl)
+loop-holds c = (omega arith, refl)
 
 add-delay-sums : tie.Need-add-delay-sums Inv-loop μ-loop
 add-delay-sums c = search needs
@@ -47,18 +44,15 @@ loop-less : tie.Need-loop-less Inv-loop μ-loop
 loop-less c = search needs
 
 loop-again : tie.Need-loop-again Inv-loop μ-loop
-unfolding fill solvedBelow
+unfolding solvedFrom
 loop-again c =
     let l = c .before .before .before .loop in
-    let a = c .before .before .before .before .before .args in
-    let p : 1 ≤ l .k + 1 = omega arith in
-    let q : l .k + 1 ≤ 10 = omega arith in
-    let sums = delay-is (a .rates .now) (a .moments .now) (a .held .now) (l .k + 1) (a .n) p q in
-    (omega arith, l .inv .1, rw (add-one (l .k)) (rw (← (l .inv .2), c .solve .ensures, c .before .delay-sums .ensures, l .inv .1, sums)))
+    let d : delayWithin (l .k + 1) ≡ l .k + 1 = omega arith in
+    (omega arith, fill-more _ _ _ (l .k) _ _ (l .inv .1) (c .solve .ensures .is ∙ ap solve (rw d at (c .before .delay-sums .ensures))) (add-one (l .k)))
 
 returns : tie.Need-returns Inv-loop μ-loop
 unfolding solvedList
-returns c = let e : c .before .loop .k ≡ 10 = omega arith in rw e at (c .before .loop .inv .2)
+returns c = let e : c .before .loop .k ≡ 10 = omega arith in rw e at (c .before .loop .inv .1)
 
 pub solve-delays-spec : {M : Type 1} → statement M
 solve-delays-spec =
@@ -66,7 +60,6 @@ solve-delays-spec =
     (tie.spec
     Inv-loop
     μ-loop
-    sum-shared-requires
     loop-holds
     add-delay-sums
     delay-sums-requires

@@ -7,7 +7,7 @@ use borrow.Author.Needs.{needs}
 use lib.Ieee.{binary32, add}
 use Rattle.float.specs.Series.{at}
 use Rattle.shared_sums.specs.Shared.{commonProduct, fillFrom}
-use Rattle.shared_sums.proofs.Shared.{common-at}
+use Rattle.shared_sums.proofs.Arrays.{common-at}
 use Rattle.shared_sums.proofs.add_common_to.Statement.{statement}
 use Rattle.shared_sums.proofs.add_common_to.Tie as tie
 

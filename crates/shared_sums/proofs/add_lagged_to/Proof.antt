@@ -7,7 +7,7 @@ use borrow.Author.Needs.{needs}
 use lib.Ieee.{binary32, add}
 use Rattle.float.specs.Series.{at}
 use Rattle.shared_sums.specs.Shared.{laggedProduct, fillFrom}
-use Rattle.shared_sums.proofs.Shared.{lagged-at}
+use Rattle.shared_sums.proofs.Arrays.{lagged-at}
 use Rattle.shared_sums.proofs.add_lagged_to.Statement.{statement}
 use Rattle.shared_sums.proofs.add_lagged_to.Tie as tie
 

@@ -7,29 +7,47 @@ use Rattle.shared_sums.specs.Shared.{commonTerms}
 use Rattle.shared_sums.proofs.common_terms.Statement.{statement}
 use Rattle.shared_sums.proofs.common_terms.Tie as tie
 
-sub-last : tie.Need-sub-last
-sub-last c = search needs
+sub-t3 : tie.Need-sub-t3
+sub-t3 c = search needs
 
-mul-last : tie.Need-mul-last
-mul-last c = search needs
+mul-t4 : tie.Need-mul-t4
+mul-t4 c = search needs
 
-element-copy-out-last : tie.Need-element-copy-out-last
-element-copy-out-last c = search needs
+element-copy-out-t7 : tie.Need-element-copy-out-t7
+element-copy-out-t7 c = search needs
 
-sub-t4 : tie.Need-sub-t4
-sub-t4 c = search needs
+sub-t8 : tie.Need-sub-t8
+sub-t8 c = search needs
 
-mul-t5 : tie.Need-mul-t5
-mul-t5 c = search needs
+mul-t9 : tie.Need-mul-t9
+mul-t9 c = search needs
 
-element-copy-out-t8 : tie.Need-element-copy-out-t8
-element-copy-out-t8 c = search needs
+element-copy-out-t12 : tie.Need-element-copy-out-t12
+element-copy-out-t12 c = search needs
 
-mul-t12 : tie.Need-mul-t12
-mul-t12 c = search needs
+sub-t13 : tie.Need-sub-t13
+sub-t13 c = search needs
 
-element-copy-out-t15 : tie.Need-element-copy-out-t15
-element-copy-out-t15 c = search needs
+mul-t14 : tie.Need-mul-t14
+mul-t14 c = search needs
+
+element-copy-out-t17 : tie.Need-element-copy-out-t17
+element-copy-out-t17 c = search needs
+
+mul-t19 : tie.Need-mul-t19
+mul-t19 c = search needs
+
+element-copy-out-t22 : tie.Need-element-copy-out-t22
+element-copy-out-t22 c = search needs
+
+sub-t23 : tie.Need-sub-t23
+sub-t23 c = search needs
+
+mul-t24 : tie.Need-mul-t24
+mul-t24 c = search needs
+
+element-copy-out-t27 : tie.Need-element-copy-out-t27
+element-copy-out-t27 c = search needs
 
 returns : tie.Need-returns
 unfolding commonTerms target sub ofBits
@@ -39,12 +57,18 @@ pub common-terms-spec : {M : Type 1} → statement M
 common-terms-spec =
     tie.close
     (tie.spec
-    sub-last
-    mul-last
-    element-copy-out-last
-    sub-t4
-    mul-t5
-    element-copy-out-t8
-    mul-t12
-    element-copy-out-t15
+    sub-t3
+    mul-t4
+    element-copy-out-t7
+    sub-t8
+    mul-t9
+    element-copy-out-t12
+    sub-t13
+    mul-t14
+    element-copy-out-t17
+    mul-t19
+    element-copy-out-t22
+    sub-t23
+    mul-t24
+    element-copy-out-t27
     returns)

@@ -1,6 +1,9 @@
--- `least_squares::Sums::solve` meets its contract: each call is one of the definition's steps.
+-- `least_squares::Sums::solve` meets its contract: each call is one of the definition's steps, and where they are taken every diagonal is above 0.
+use mathlib.Core.Path.{refl, sym, _∙_}
+use mathlib.Core.Bool.{true≢false}
 use borrow.Author.Needs.{needs}
 use Rattle.least_squares.specs.Solve.{dot, residualOf, solveIf, solveWith, solve}
+use Rattle.least_squares.proofs.Diagonals.{fails}
 use Rattle.least_squares.proofs.Sums.solve.Statement.{statement}
 use Rattle.least_squares.proofs.Sums.solve.Tie as tie
 
@@ -34,20 +37,28 @@ returns c =
     let taken = forth .before .before .before in
     let tested = taken .before in
     let factors = tested .before .before .before in
-    rw (
-      ← (factors .factored .ensures),
-      ← (tested .diagonals-above-zero .ensures),
-      taken .if1 .taken,
-      ← (forth .forward-solved .ensures),
-      ← (back .backward-solved .ensures),
-      ← (dot .dot-product .ensures),
-      ← (c .before .max-zero .ensures),
-    )
-    (c .fit-if-finite .ensures)
+    let above = tested .diagonals-above-zero .ensures .in-order (factors .factored .ensures .by-entry) in
+    record {
+      is =
+          rw (
+            ← (factors .factored .ensures .by-entry),
+            ← (tested .diagonals-above-zero .ensures .by-entry),
+            taken .if1 .taken,
+            ← (forth .forward-solved .ensures),
+            ← (back .backward-solved .ensures),
+            ← (dot .dot-product .ensures),
+            ← (c .before .max-zero .ensures),
+          )
+          (c .fit-if-finite .ensures);
+      no-fit = λ j h e. absurd (true≢false (sym (taken .if1 .taken) ∙ above ∙ fails _ 6 j h e));
+    }
 
 returns-2 : tie.Need-returns-2
 unfolding solve solveWith solveIf
-returns-2 c = rw (← (c .before .before .before .before .factored .ensures), ← (c .before .diagonals-above-zero .ensures), c .if1 .left)
+returns-2 c = record {
+  is = rw (← (c .before .before .before .before .factored .ensures .by-entry), ← (c .before .diagonals-above-zero .ensures .by-entry), c .if1 .left);
+  no-fit = λ j h e. refl;
+}
 
 pub solve-spec : {M : Type 1} → statement M
 solve-spec =
