@@ -10,9 +10,9 @@ use lib.Seq.{take-nil, length-take-le}
 use lib.Ieee.{Float, binary32, div}
 use Rattle.window.specs.Samples.{capacity}
 use Rattle.window.specs.Walk.{many, isRow}
-use Rattle.window.specs.Arrays.{manyTo, tallyTo}
+use Rattle.window.specs.Arrays.{manyTo}
 use Rattle.window.proofs.Prefix.{many-take}
-use Rattle.window.proofs.Tallies.{few}
+use Rattle.window.proofs.Bounds.{many-at-most}
 use Rattle.rows.specs.Rows.{lengthWithin, noSums}
 use Rattle.rows.proofs.Prefix.{window-take, sum-take}
 use Rattle.rows.proofs.Together.{alike}
@@ -64,8 +64,7 @@ module _ {rates moments : List Float} {marks : List Bool} {len n : ℕ} (w : Sto
     rows-is = rw shared-is
 
     pub few-rows : shared .rows ≤ capacity
-    unfolding tallyTo
-    few-rows = omega (arith, rows-is, few marks n .rows, within-capacity)
+    few-rows = omega (arith, rows-is, many-at-most isRow marks n, within-capacity)
 
     solved-cut : (k : ℕ) → k < maxDelay → solvedAt (take len rates) (take len moments) (take len marks) k ≡ solvedFrom shared k
     unfolding solvedAt solvedFrom

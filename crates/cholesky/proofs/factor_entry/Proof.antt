@@ -22,7 +22,7 @@ returns-2 : tie.Need-returns-2
 unfolding factorEntry
 returns-2 c =
     let e = c .before .before in
-    simp (le-ltb _ _ (e .before .before .if1 .left), eq-eqb _ _ (c .before .if2 .taken)) (rw (← (e .before .entry .ensures), ← (e .reduced-entry .ensures)) (c .root .ensures))
+    simp (le-ltb _ _ (e .before .before .if1 .left), eq-eqb _ _ (c .before .if2 .taken)) (rw (← (e .before .entry .ensures), ← (e .reduced-entry .ensures)) (c .root .ensures .0))
 
 entry-requires-2 : tie.Need-entry-requires-2
 entry-requires-2 c κs = search needs
