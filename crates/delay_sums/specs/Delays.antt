@@ -25,6 +25,7 @@ crossSum s d a b =
 unfoldable pub placeOf : ℕ → ℕ
 placeOf i = cond (ltb i 2) i (cond (ltb i 5) (i + 2) 2)
 
+-- delay d's sums: those of its six terms by two, of each with the target, and of the target with itself
 unfoldable pub delaySums : SharedSums → ℕ → Sums
 delaySums s d = record {
   normal = fill (λ n l. crossSum s d (placeOf (n % 6)) (placeOf (n / 6))) (replicate 36 zero32) 36;

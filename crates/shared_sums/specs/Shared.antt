@@ -32,15 +32,19 @@ pairProduct moments o k j = mul binary32 (at moments (k - j)) (at moments (k - j
 unfoldable pub rowSums : ℕ → ℕ → List Bool → ℕ → (ℕ → ℕ → Float) → List Float
 rowSums m n marks len f = each n (λ i s. sumRows marks len (f i) s) (replicate m zero32)
 
+-- the products of two of the common terms, summed
 unfoldable pub commonSums : List Float → List Bool → ℕ → List Float
 commonSums rates marks len = rowSums 16 16 marks len (λ n k. commonProduct (commonTerms rates k) n)
 
+-- those of a common term and a moment
 unfoldable pub laggedSums : List Float → List Float → List Bool → ℕ → List Float
 laggedSums rates moments marks len = rowSums 48 48 marks len (λ n k. laggedProduct (commonTerms rates k) moments k n)
 
+-- those of two moments that stand o ticks apart
 unfoldable pub pairSums : List Float → List Bool → ℕ → ℕ → List Float
 pairSums moments marks o len = rowSums 12 (12 - o) marks len (λ j k. pairProduct moments o k j)
 
+-- all of them, and how many rows there are, over the rows among the first len ticks
 unfoldable pub sharedSums : List Float → List Float → List Bool → ℕ → SharedSums
 sharedSums rates moments marks len = record {
   common = commonSums rates marks len;

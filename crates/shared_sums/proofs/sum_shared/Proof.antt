@@ -43,22 +43,22 @@ loop-again c =
     (omega arith, omega arith, skipped (c .before .before .before .before .loop .inv .2) (c .before .next-run .ensures) (c .if1 .taken))
 
 common-terms-requires : tie.Need-common-terms-requires Inv-loop μ-loop
-common-terms-requires c κs = (row-late c, omega arith)
+common-terms-requires c κs = (omega (arith, row-late c), omega arith)
 
 add-common-requires : tie.Need-add-common-requires Inv-loop μ-loop
 add-common-requires c κs = search needs
 
 add-lagged-requires : tie.Need-add-lagged-requires Inv-loop μ-loop
-add-lagged-requires c κs = (row-late (c .before .before .before .before .before .before), omega arith)
+add-lagged-requires c κs = (omega (arith, row-late (c .before .before .before .before .before .before)), omega arith)
 
 add-pairs-requires : tie.Need-add-pairs-requires Inv-loop μ-loop
-add-pairs-requires c κs = (row-late (c .before .before .before .before .before .before .before .before), omega arith, omega arith)
+add-pairs-requires c κs = (omega (arith, row-late (c .before .before .before .before .before .before .before .before)), omega arith, omega arith)
 
 add-pairs-requires-2 : tie.Need-add-pairs-requires-2 Inv-loop μ-loop
-add-pairs-requires-2 c κs = (row-late (c .before .before .before .before .before .before .before .before .before .before), omega arith, omega arith)
+add-pairs-requires-2 c κs = (omega (arith, row-late (c .before .before .before .before .before .before .before .before .before .before)), omega arith, omega arith)
 
 add-pairs-requires-3 : tie.Need-add-pairs-requires-3 Inv-loop μ-loop
-add-pairs-requires-3 c κs = (row-late (c .before .before .before .before .before .before .before .before .before .before .before .before), omega arith, omega arith)
+add-pairs-requires-3 c κs = (omega (arith, row-late (c .before .before .before .before .before .before .before .before .before .before .before .before)), omega arith, omega arith)
 
 add-count : tie.Need-add-count Inv-loop μ-loop
 add-count c = search needs
