@@ -26,7 +26,7 @@ use Rattle.grid.specs.declared.Kept.{Kept}
 use Rattle.grid.specs.declared.Kept.the-variants.{Empty, Best}
 use Rattle.grid.specs.declared.LagFit.{LagFit}
 use Rattle.integrated.specs.declared.Fitted.the-variants as fitted
-use Rattle.integrated.specs.Golden.{Round, over, on, tried, leftOf, rightOf, onward, golden, refined, maxRounds}
+use Rattle.golden.specs.Golden.{Round, over, on, tried, leftOf, rightOf, onward, golden, refined, maxRounds}
 use Rattle.grid.specs.Grid.{keptAt}
 use Rattle.integrated.specs.Integrated.{modelled, noModel, chosenFrom, chosenAt, searched, windowFit, meanDt, fitLong, fitIntegrated}
 use Rattle.integrated.specs.Integrated as integrated

@@ -1,2 +1,1 @@
-pub mod Golden
 pub mod Integrated

@@ -157,11 +157,6 @@ fn fit_long(rates: &[f32; 2048], moments: &[f32; 2048], n: usize, dt_s: f32) -> 
     search(moments, &cs, &ts, w, dt_s)
 }
 
-// An array is as long as its type says. The proofs learn it where the array is passed by value.
-fn is_whole(samples: [f32; 2048])
-    ensures { λ r. ⌜ length samples ≡ 2048 ⌝ }
-{}
-
 // The integrated fit of the first len rates and moments.
 pub fn fit_integrated(
     rates: &[f32; 2048],
@@ -171,7 +166,7 @@ pub fn fit_integrated(
 ) -> IntegratedFit
     ensures { λ r. ⌜ r ≡ fitIntegrated (take (min len 2048) (now (rates .entry))) (take (min len 2048) (now (moments .entry))) «duration_s» ⌝ }
 {
-    is_whole(*rates);
+    window::whole_values(*rates);
     let n = gain::stored(len);
     if n <= 12 {
         return no_model(0);

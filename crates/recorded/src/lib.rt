@@ -43,16 +43,13 @@ const SATURATED_SHARE: f32 = 0.2;
 
 // ---- what is stored
 
-// Taking the arrays by value tells their lengths; compiled, nothing is copied.
-fn are_whole(rates: [f32; 2048], moments: [f32; 2048], held: [bool; 2048])
-    ensures { λ _. ⌜ (length rates ≡ capacity) × (length moments ≡ capacity) × (length held ≡ capacity) ⌝ }
-{}
-
 // How many samples of a window are stored: `len`, and never more than the arrays hold.
 fn stored(rates: &[f32; 2048], moments: &[f32; 2048], held: &[bool; 2048], len: usize) -> usize
     ensures { λ r. ⌜ Stored (now (rates .entry)) (now (moments .entry)) (now (held .entry)) len r ⌝ }
 {
-    are_whole(*rates, *moments, *held);
+    window::whole_values(*rates);
+    window::whole_values(*moments);
+    window::whole_marks(*held);
     rows::length_within(len)
 }
 

@@ -11,8 +11,8 @@ use Rattle.integrated.proofs.Prefix.{short, enough}
 use Rattle.integrated.proofs.fit_integrated.Statement.{statement}
 use Rattle.integrated.proofs.fit_integrated.Tie as tie
 
-is-whole-requires : tie.Need-is-whole-requires
-is-whole-requires c κs = search needs
+whole-values-requires : tie.Need-whole-values-requires
+whole-values-requires c κs = search needs
 
 stored-requires : tie.Need-stored-requires
 stored-requires c κs = search needs
@@ -24,7 +24,7 @@ returns : tie.Need-returns
 returns c =
     let s = c .before .before in let w = s .before in let a = w .before .before .args in
     let n = s .stored .result in
-    let e : length (take n (a .rates .now)) ≡ n = length-take-le n (a .rates .now) (rw (w .is-whole .ensures) (omega arith)) in
+    let e : length (take n (a .rates .now)) ≡ n = length-take-le n (a .rates .now) (rw (w .whole-values .ensures) (omega arith)) in
     rw (← (s .stored .ensures)) (c .no-model .ensures ∙ short (a .rates .now) (a .moments .now) (a .duration-s) n e (c .before .if1 .taken))
 
 int-to-float-fit-long : tie.Need-int-to-float-fit-long
@@ -38,14 +38,14 @@ returns-2 : tie.Need-returns-2
 returns-2 c =
     let s = c .before .before .before in let w = s .before in let a = w .before .before .args in
     let n = s .stored .result in
-    let e : length (take n (a .rates .now)) ≡ n = length-take-le n (a .rates .now) (rw (w .is-whole .ensures) (omega arith)) in
+    let e : length (take n (a .rates .now)) ≡ n = length-take-le n (a .rates .now) (rw (w .whole-values .ensures) (omega arith)) in
     rw (← (s .stored .ensures)) (c .fit-long .ensures ∙ enough (a .rates .now) (a .moments .now) (a .duration-s) n e (c .before .before .if1 .left))
 
 pub fit-integrated-spec : {M : Type 1} → statement M
 fit-integrated-spec =
     tie.close
     (tie.spec
-    is-whole-requires
+    whole-values-requires
     stored-requires
     no-model-requires
     returns
