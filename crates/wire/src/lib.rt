@@ -29,17 +29,27 @@ fn joined(a: u8, b: u8, c: u8, d: u8) -> u32
     (((a as u32) * 256 + (b as u32)) * 256 + (c as u32)) * 256 + (d as u32)
 }
 
-// The word at byte `at`; a byte past the end counts as 0.
+// The word at byte `at` of a slice that ends before the word does.
+fn torn_word(bytes: &[u8], at: usize) -> u32
+    ensures { λ r. ⌜ r ≡ wordAt (now (bytes .entry)) at ⌝ }
+{
+    joined(
+        byte(bytes, at, 0),
+        byte(bytes, at, 1),
+        byte(bytes, at, 2),
+        byte(bytes, at, 3),
+    )
+}
+
+// The word at byte `at`; a byte past the end counts as 0. The first test does not depend on the place: a loop makes it once.
 pub fn read_word(bytes: &[u8], at: usize) -> u32
     ensures { λ r. ⌜ r ≡ wordAt (now (bytes .entry)) at ⌝ }
 {
-    if left(bytes.len(), at) < 4 {
-        return joined(
-            byte(bytes, at, 0),
-            byte(bytes, at, 1),
-            byte(bytes, at, 2),
-            byte(bytes, at, 3),
-        );
+    if bytes.len() < 4 {
+        return torn_word(bytes, at);
+    }
+    if bytes.len() - 4 < at {
+        return torn_word(bytes, at);
     }
     joined(bytes[at], bytes[at + 1], bytes[at + 2], bytes[at + 3])
 }
@@ -55,7 +65,10 @@ pub fn read_float(bytes: &[u8], at: usize) -> f32
 pub fn write_word(out: &mut [u8], at: usize, word: u32)
     ensures { λ _. ⌜ now (out .exit) ≡ writtenWithin at (bytesOf 4 word) (now (out .entry)) ⌝ }
 {
-    if left(out.len(), at) < 4 {
+    if out.len() < 4 {
+        return;
+    }
+    if out.len() - 4 < at {
         return;
     }
     out[at] = (word / 0x100_0000 % 256) as u8;

@@ -8,11 +8,14 @@ use Rattle.wire.proofs.Written.{word-stored, word-within, word-past}
 use Rattle.wire.proofs.write_word.Statement.{statement}
 use Rattle.wire.proofs.write_word.Tie as tie
 
-left-requires : tie.Need-left-requires
-left-requires c κs = search needs
-
 returns : tie.Need-returns
-returns c = let a = c .before .before .before .args in sym (word-past (a .at) (a .word) (a .out .now) (omega arith))
+returns c = let a = c .before .args in sym (word-past (a .at) (a .word) (a .out .now) (omega arith))
+
+sub-if2 : tie.Need-sub-if2
+sub-if2 c = search needs
+
+returns-2 : tie.Need-returns-2
+returns-2 c = let a = c .before .before .args in sym (word-past (a .at) (a .word) (a .out .now) (omega arith))
 
 cast-out : tie.Need-cast-out
 cast-out c = search needs
@@ -50,9 +53,9 @@ slice-write-out-4 c = simp length-set (omega arith)
 same-length : tie.Need-same-length
 same-length c = search needs
 
-returns-2 : tie.Need-returns-2
-returns-2 c =
-    let a = c .before .before .before .args in
+returns-3 : tie.Need-returns-3
+returns-3 c =
+    let a = c .before .before .args in
     let fits : a .at + 4 ≤ length (a .out .now) = omega arith in
     word-stored (a .at) (a .word) (a .out .now) fits ∙ sym (word-within (a .at) (a .word) (a .out .now) fits)
 
@@ -60,8 +63,9 @@ pub write-word-spec : {M : Type 1} → statement M
 write-word-spec =
     tie.close
     (tie.spec
-    left-requires
     returns
+    sub-if2
+    returns-2
     cast-out
     slice-write-out
     cast-out-2
@@ -74,4 +78,4 @@ write-word-spec =
     add-out-3
     slice-write-out-4
     same-length
-    returns-2)
+    returns-3)
