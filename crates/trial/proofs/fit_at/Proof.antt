@@ -1,4 +1,4 @@
--- `trial::fit_at` meets its contract: what it solves is the fit of the step's series beside the two leaky ones (`solved-is`, gain's proofs/Window.antt).
+-- `trial::fit_at` meets its contract: what it solves is the fit of the step's series beside the two leaky ones (`solved-is`, gain/proofs/Window.antt).
 use mathlib.Core.Path.{_∙_}
 use borrow.Author.Needs.{needs}
 use Rattle.gain.proofs.Window.{solved-is}

@@ -1,4 +1,4 @@
--- `trial::fit_gain` meets its contract: it is the fit from the prepared series, which is the window's (`window-fit`, gain's proofs/Window.antt).
+-- `trial::fit_gain` meets its contract: it is the fit from the prepared series, which is the window's (`window-fit`, gain/proofs/Window.antt).
 use Prim.Native.Nat.{_-_, _≤_, min}
 use mathlib.Core.Path.{_∙_}
 use native.Mathlib.Omega.{arith}

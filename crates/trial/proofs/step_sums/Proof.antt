@@ -1,5 +1,5 @@
 -- `trial::step_sums` meets its contract. The loop's invariant: lagged, and last in f64, are the moments before first + i through the lag, and m and the three sums are those of the places before i
--- (`Running`, gain's proofs/Accumulators.antt). The measure is the places left.
+-- (`Running`, gain/proofs/Accumulators.antt). The measure is the places left.
 use Prim.Native.Nat.{suc, _≤_, _-_, _+_}
 use mathlib.Core.Path.{_≡_, refl, _∙_}
 use native.Mathlib.Omega.{arith}
