@@ -1,6 +1,33 @@
 /* The rate identifier: one probe over a list of calls, as bytes.
  *
  * The library is built by `rt staticlib byte_run` (target/staticlib/libbyte_run.a, x86-64).
+ *
+ * Example: 100 calls of 4 ms, with nothing moving.
+ *
+ *     #include "identify.h"
+ *     #include <stdio.h>
+ *     #include <string.h>
+ *
+ *     static void put(uint8_t *at, float x)
+ *     {
+ *         uint32_t w;
+ *         memcpy(&w, &x, 4);
+ *         for (int i = 0; i < 4; i++)
+ *             at[i] = (uint8_t)(w >> (24 - 8 * i));
+ *     }
+ *
+ *     int main(void)
+ *     {
+ *         static uint8_t config[24], calls[12 * 100], output[36 + 4 * 100];
+ *         put(config, 0.5f);      // amplitude
+ *         put(config + 4, 6.0f);  // duration_s
+ *         put(config + 8, 0.5f);  // washout_tc_s; the flag after it stays 0: no extension
+ *         for (int k = 0; k < 100; k++)
+ *             put(calls + 12 * k, 0.004f);  // dt; rate and moment stay 0
+ *         uint32_t number = identify_byte_run(config, sizeof config, calls, sizeof calls, output, sizeof output);
+ *         printf("answer %u, kind %u\n", number, output[0] >> 6);  // answer 0, kind 0: still running
+ *         return 0;
+ *     }
  */
 #ifndef IDENTIFY_H
 #define IDENTIFY_H
@@ -34,6 +61,10 @@ extern "C" {
  *   6  dt not positive and finite
  *   7  still running, and elapsed + dt above 4,096 s
  *   8  still running, with 16,777,216 ticks
+ *
+ * It is re-entrant: it has no global state, takes no memory from a heap and calls nothing outside itself. It takes up to
+ * STACKBYTES bytes of stack. A call within a run takes some nanoseconds, but the one at which a fit falls due up to some
+ * milliseconds, all within this function.
  *
  * The caller sees to it that each pointer is good for its length, that the output overlaps neither input, that floats round to
  * nearest (the default mode), and that subnormals are not flushed to zero.
