@@ -63,7 +63,7 @@ extern "C" {
  *   8  still running, with 16,777,216 ticks
  *
  * It is re-entrant: it has no global state, takes no memory from a heap and calls nothing outside itself. It takes up to
- * STACKBYTES bytes of stack. A call within a run takes some nanoseconds, but the one at which a fit falls due up to some
+ * 157,600 bytes of stack. A call within a run takes some nanoseconds, but the one at which a fit falls due up to some
  * milliseconds, all within this function.
  *
  * The caller sees to it that each pointer is good for its length, that the output overlaps neither input, that floats round to
