@@ -1,0 +1,68 @@
+"""The header's example, compiled against the real library and run; and M1 through the same function, from C."""
+import os
+import re
+import subprocess
+import tempfile
+import unittest
+from pathlib import Path
+
+from support import ROOT
+
+from identify import library
+
+HEADER = ROOT / "include/identify.h"
+
+M1 = r"""
+#include "identify.h"
+#include <stdio.h>
+
+int main(void)
+{
+    static const uint8_t config[24] = {0x3f, 0x80, 0, 0, 0x3f, 0x80, 0, 0, 0x3f, 0};
+    static uint8_t calls[48], output[52];
+    for (int k = 0; k < 4; k++) {
+        calls[12 * k] = 0x3e;
+        calls[12 * k + 1] = 0x80;
+    }
+    printf("%u ", (unsigned)identify_byte_run(config, sizeof config, calls, sizeof calls, output, sizeof output));
+    for (int i = 0; i < 52; i++)
+        printf("%02X", output[i]);
+    return 0;
+}
+"""
+
+
+def example() -> str:
+    """The program in the header's comment, without the comment's marks."""
+    text = HEADER.read_text(encoding="utf8")
+    comment = text[text.index("Example:"):text.index("*/")]
+    return "\n".join(line[7:] for line in comment.split("\n")[1:] if re.match(r" \*     ", line) or line == " *")
+
+
+def run(program: str) -> str:
+    """What a C program writes that is linked with the library."""
+    named = os.environ.get(library.VARIABLE)
+    archive = Path(named).resolve() if named else library.built(ROOT)
+    with tempfile.TemporaryDirectory() as name:
+        folder = Path(name)
+        (folder / "program.c").write_text(program, encoding="utf8")
+        words = ("cc", "-std=c99", "-Wall", "-Wextra", "-Werror", "-pedantic", "-I", str(HEADER.parent), "program.c", str(archive))
+        subprocess.run((*words, f"-Wl,-rpath,{archive.parent}", "-o", "program"), cwd=folder, check=True)
+        return subprocess.run((folder / "program",), capture_output=True, text=True, check=True).stdout
+
+
+class Header(unittest.TestCase):
+    """A C caller."""
+
+    def test_the_example_says_what_its_comment_says(self):
+        program = example()
+        said = re.search(r"// (answer 0, kind 0): still running", program)
+        self.assertEqual(run(program), said.group(1) + "\n")
+
+    def test_m1(self):
+        report = "800000020020000020000000" + "00" * 24
+        self.assertEqual(run(M1), f"0 {report}3F0000003E8000003E000000BEE00000")
+
+
+if __name__ == "__main__":
+    unittest.main()
