@@ -5,8 +5,8 @@ use mathlib.Core.Bool.{false}
 use mathlib.Core.List.{List, [], _∷_, _++_}
 use lib.ListN.{replicate, length}
 use Rattle.byte_config.specs.ByteConfig.{configOf, extensionOf}
-use Rattle.byte_run.specs.ByteRun.{Ran, byteRun, runIf, ran, onto, sized, written, replyWord, callsOf, callsTo, callAt}
-use Rattle.wire.specs.Words.{floatAt, wordAt, wordBytes, bytesOf}
+use Rattle.byte_run.specs.ByteRun.{byteRun, runIf, ran, onto, sized, written, replyWord, callsOf, callsTo, callAt}
+use Rattle.wire.specs.Words.{floatAt, wordAt, wordBytes, bytesOf, Ran}
 use Rattle.report.specs.Report.{reportBytes, packed, fieldsOf, floatsOf, delayOf, kindOf}
 use Rattle.probe_report.specs.ProbeReport.{ofAccount}
 use Rattle.account.specs.Account.{opened, entry, counted, judged, ended, accept, time, turned, continue, next}

@@ -8,7 +8,7 @@ use Rattle.account.specs.declared.IdentifyConfig.{IdentifyConfig}
 use Rattle.account.specs.Rules.{broken}
 use Rattle.account.specs.Probe.{Call, Reply, offset, refused, fresh, replies}
 use Rattle.account.specs.Account.{opened, account}
-use Rattle.wire.specs.Words.{floatAt, wordBytes, wordOf}
+use Rattle.wire.specs.Words.{floatAt, wordBytes, wordOf, Ran}
 use Rattle.byte_config.specs.ByteConfig.{configOf}
 use Rattle.report.specs.Report.{reportBytes}
 use Rattle.probe_report.specs.ProbeReport.{ofAccount}
@@ -38,11 +38,6 @@ written c calls = reportBytes (ofAccount (account (opened c) calls)) ++ wordByte
 unfoldable pub sized : List ℕ → List ℕ → List ℕ → Bool
 sized config calls output =
     eqb (length config) 24 && eqb (length calls % 12) 0 && leb (36 + 4 * (length calls / 12)) (length output)
-
--- what a run answers, and the output as it leaves it
-pub record Ran : Type 0 where
-  pub result : ℕ
-  pub output : List ℕ
 
 -- over the bytes that stood there; "Later bytes are untouched."
 unfoldable pub onto : List ℕ → List ℕ → List ℕ

@@ -43,7 +43,7 @@ fn run_agrees(
     if output.len() < n {
         return false;
     }
-    let answered = byte_run::identify_byte_run(config, calls, &mut output[..n]);
+    let answered = byte_run::byte_run(config, calls, &mut output[..n]);
     (answered == result) & holds(output, expected)
 }
 

@@ -10,27 +10,22 @@ use lib.Dec.{T, eqb→eq, lit<, lit≤}
 use lib.IntN.{ℤ, pos, negsuc}
 use lib.Pow.{pow-pos}
 use lib.Ieee.{Float, nan, inf, fin, binary32, binary64, up, down, ofBits, ofInt, add, mul, div, lt, le, fits}
-use lib.Ieee.Back.{round-whole}
 use lib.Ieee.Exact.{HasValue}
 use lib.Ieee.Fits.{up-pos, down-pos}
 use lib.Ieee.Order.{le-of-values}
 use Rattle.float.specs.Values.{zero32, one32, one64}
 use Rattle.float.specs.Narrow.{narrowed}
 use Rattle.float.specs.Exp.{horner, squared, expOf, InUnit}
-use Rattle.float.proofs.Unit.{Small, one, round-small, mul-small, div-small, add-small}
+use Rattle.float.proofs.Unit.{Small, one, whole, round-small, mul-small, div-small, add-small}
 
 -- ---- the steps
 one-is : one64 ≡ one
 unfolding ofBits
 one-is = refl
 
-whole : (n : ℕ) → n ≤ 2 ^ 53 → HasValue (ofInt binary64 (pos n)) false n 1
-unfolding ofInt
-whole n h = round-whole binary64 false n h
-
 horner-small : (t : Float) → Small true t → (k : ℕ) → k ≤ 8 → Small false (horner t k)
 unfolding horner
-horner-small t p zero h = subst (Small false) (sym one-is) (refl, lit≤ tt)
+horner-small t p zero h = subst (Small false) (sym one-is) (refl, lit≤ tt, lit≤ tt)
 horner-small t p (suc k) h =
     let n = 8 - k in
     let q = div binary64 t (ofInt binary64 (pos n)) in
@@ -49,7 +44,7 @@ unfolding narrowed
 narrowed-small nan p = absurd p
 narrowed-small (inf s) p = absurd p
 narrowed-small (fin true m e) p = absurd (true≢false (p .0))
-narrowed-small (fin false m e) p = round-small binary32 false (m * up e) (down e) (down-pos e) (p .1)
+narrowed-small (fin false m e) p = round-small binary32 false (m * up e) (down e) (down-pos e) (omega (arith, p .2))
 
 -- ---- x from -104 to -0
 limit : ofInt binary64 (negsuc 103) ≡ fin true 13 (pos 3)
@@ -69,7 +64,7 @@ scaled m e h =
 
 zero-small : Small false zero32
 unfolding ofBits
-zero-small = (refl, lit≤ tt)
+zero-small = (refl, lit≤ tt, lit≤ tt)
 
 negative-small : (m : ℕ) (e : ℤ) → Small false (expOf (fin true m e))
 unfolding expOf
@@ -85,11 +80,11 @@ negative-small m e = go (lt (fin true m e) (ofInt binary64 (negsuc 103))) refl
 -- ---- the ends: -infinity, and +0
 infinite-small : Small false (expOf (inf true))
 unfolding expOf lt ofInt ofBits
-infinite-small = (refl, lit≤ tt)
+infinite-small = (refl, lit≤ tt, lit≤ tt)
 
 nothing-small : Small false (expOf (fin false 0 (pos 0)))
 unfolding expOf lt ofInt div mul add horner squared narrowed ofBits
-nothing-small = (refl, lit≤ tt)
+nothing-small = (refl, lit≤ tt, lit≤ tt)
 
 zero-exponent : (e : ℤ) → up e * down e ≡ 1 → e ≡ pos 0
 zero-exponent (pos zero) h = refl
@@ -129,7 +124,7 @@ in-unit (inf s) p = absurd p
 in-unit (fin true m e) p = absurd (true≢false (p .0))
 in-unit (fin false m e) p = record {
   from-zero = le-of-values zero32 (fin false m e) 0 1 (m * up e) (down e) (lit< tt) (down-pos e) zero-value (refl, refl) (let r : 0 * down e ≤ m * up e * 1 = omega arith in r);
-  to-one = le-of-values (fin false m e) one32 (m * up e) (down e) 1 1 (down-pos e) (lit< tt) (refl, refl) one-value (let r : m * up e * 1 ≤ 1 * down e = omega (arith, p .1) in r);
+  to-one = le-of-values (fin false m e) one32 (m * up e) (down e) 1 1 (down-pos e) (lit< tt) (refl, refl) one-value (let r : m * up e * 1 ≤ 1 * down e = p .2 in r);
 }
 
 -- exp of any f32 that is at most 0

@@ -10,6 +10,10 @@ pub mod WholeRoot
 pub mod RootFields
 pub mod ExpSteps
 pub mod RootNear
+pub mod Between
 pub mod Unit
 pub mod ExpUnit
 pub mod Fill
+pub mod WholeNumbers
+pub mod LogSteps
+pub mod LogFields

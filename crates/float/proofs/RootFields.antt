@@ -89,7 +89,7 @@ sign-fields (suc x) t = go (eqb (suc x) 255) (eqb t 0) (2 ^ 23 + t)
     go false b zero = refl
     go false b (suc q) = refl
 
-zero-bits : (e : ℤ) → toBits binary32 (fin true 0 e) ≡ 2 ^ 31
+pub zero-bits : (e : ℤ) → toBits binary32 (fin true 0 e) ≡ 2 ^ 31
 unfolding toBits
 zero-bits e =
     ap (λ (n : ℕ). 2 ^ 31 + (size n - 24) * 2 ^ 23 + n / 2 ^ (size n - 24)) (ap (λ (y : ℕ). y * 2 ^ 149 / down e) (zero-mul (up e)) ∙ div-eq-of-lt (down-pos e))
@@ -108,11 +108,13 @@ root-below (fin true zero k) h e = absurd (lt-irrefl (2 ^ 31) (subst (λ (b : �
 root-below (fin true (suc m) k) h e = ap (λ (b : Bool). cond b (fin true (suc m) k) nan) (eqb·suc-zero m)
 
 -- a pattern above -0's
-pub below-zero : (x : Float) → T (fits binary32 x) → 2 ^ 31 < toBits binary32 x → rooted x ≡ nan
-below-zero x f h =
+pub negative : (x : Float) → T (fits binary32 x) → 2 ^ 31 < toBits binary32 x → sign x ≡ true
+negative x f h =
     let b = toBits binary32 x in
     let s : leb (2 ^ 31) b ≡ true = is-true (leb (2 ^ 31) b) (le→leb (2 ^ 31) b (omega arith)) in
-    root-below x h
-    (ap sign (own binary32 x f)
+    ap sign (own binary32 x f)
     ∙ ap (λ (z : Bool). sign (ofFields binary32 z (b % 2 ^ 31 / 2 ^ 23) (b % 2 ^ 23))) s
-    ∙ sign-fields (b % 2 ^ 31 / 2 ^ 23) (b % 2 ^ 23))
+    ∙ sign-fields (b % 2 ^ 31 / 2 ^ 23) (b % 2 ^ 23)
+
+pub below-zero : (x : Float) → T (fits binary32 x) → 2 ^ 31 < toBits binary32 x → rooted x ≡ nan
+below-zero x f h = root-below x h (negative x f h)

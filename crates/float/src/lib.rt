@@ -3,13 +3,14 @@ ghost use mathlib.Core.Path.{_≡_};
 ghost use mathlib.Core.Logic.{_⊎_};
 ghost use Prim.Native.Nat.{_+_, _*_, _^_, _≤_, _<_, min as minimum};
 ghost use lib.Dec.{T};
-ghost use lib.Ieee.{nan, binary32, binary64, ofBits, toBits, units, round, le};
+ghost use lib.Ieee.{nan, binary32, binary64, minus, ofBits, ofInt, toBits, units, round, le};
 ghost use lib.Ieee.Nearest.{closest};
 ghost use lib.Ieee.Positive.{positive};
 ghost use Rattle.float.specs.Values.{zero32, finite, maxZero, least};
 ghost use Rattle.float.specs.Narrow.{narrowed};
 ghost use Rattle.float.specs.Root.{rootOf, rooted, NearestRoot};
 ghost use Rattle.float.specs.Exp.{horner, squared, expOf, InUnit};
+ghost use Rattle.float.specs.Log.{logSum, logFrom, logAt, logOf};
 
 // ---- single values
 
@@ -252,4 +253,77 @@ pub fn exp(x: f32) -> f32
         return 0.0;
     }
     narrow(squared_ten_times(series(wide / 1024.0)))
+}
+
+// ---- log
+
+// 1/n + q * (last), from 1/15, for n = 13 down to 1 by twos.
+fn log_sum(q: f64) -> f64
+    ensures { λ r. ⌜ r ≡ logSum q 7 ⌝ }
+{
+    let mut last: f64 = 1.0 / 15.0;
+    for j in 0u64..7 {
+        let n = 13 - 2 * j;
+        last = 1.0 / (n as f64) + q * last;
+    }
+    last
+}
+
+// The logarithm of m * 2^k.
+fn log_from(m: f64, k: f64) -> f64
+    ensures { λ r. ⌜ r ≡ logFrom m k ⌝ }
+{
+    let z = (m - 1.0) / (m + 1.0);
+    k * 0.6931471805599453 + 2.0 * z * log_sum(z * z)
+}
+
+// a - b
+fn difference(a: u64, b: u64) -> f64
+    requires { ⌜ (a < 2 ^ 53) × (b < 2 ^ 53) ⌝ }
+    ensures { λ r. ⌜ r ≡ ofInt binary64 (minus a b) ⌝ }
+{
+    if a < b {
+        return -((b - a) as f64);
+    }
+    (a - b) as f64
+}
+
+// The logarithm of m * 2^e times 2^-149, the smallest f32.
+fn log_of(m: u64, e: u64) -> f32
+    requires { ⌜ (0 < m) × (m < 2 ^ 24) × (e < 2 ^ 9) ⌝ }
+    ensures { λ r. ⌜ r ≡ narrowed (logAt m (minus e 149)) ⌝ }
+{
+    // m / top is from 0.5 up to 1.
+    let digits: u64 = 64 - (u64::leading_zeros(m) as u64);
+    let top: u64 = 1 << digits;
+    if 3 * top <= 4 * m {
+        return narrow(log_from((m as f64) / (top as f64), difference(e + digits, 149)));
+    }
+    narrow(log_from(((2 * m) as f64) / (top as f64), difference(e + digits, 150)))
+}
+
+// The logarithm of a positive value: it is written as m * 2^k with m from 0.75 up to 1.5, then a sum in f64, narrowed.
+// -infinity of a zero, infinity of infinity, NaN of NaN and of any other negative value.
+pub fn log(x: f32) -> f32
+    ensures { λ r. ⌜ r ≡ logOf x ⌝ }
+{
+    if x != x {
+        return not_a_number();
+    }
+    let bits: u32 = f32::to_bits(x);
+    if bits % 0x8000_0000 == 0 {
+        return -1.0 / 0.0;
+    }
+    if bits > 0x8000_0000 {
+        return not_a_number();
+    }
+    let exponent: u32 = bits % 0x8000_0000 / 0x80_0000;
+    if exponent == 255 {
+        return x;
+    }
+    let fraction: u32 = bits % 0x80_0000;
+    if exponent == 0 {
+        return log_of(fraction as u64, 0);
+    }
+    log_of((fraction + 0x80_0000) as u64, (exponent - 1) as u64)
 }

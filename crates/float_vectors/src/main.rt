@@ -17,6 +17,7 @@ enum Function {
     Narrow,
     Root,
     Exp,
+    Log,
 }
 
 fn record_size(f: Function) -> usize {
@@ -38,6 +39,7 @@ fn agrees(f: Function, s: &[u8]) -> bool {
         Function::Narrow => is_at(float::narrow(double_at(s, 0)), s, 8),
         Function::Root => is_at(float::root(read_float(s, 0)), s, 4),
         Function::Exp => is_at(float::exp(read_float(s, 0)), s, 4),
+        Function::Log => is_at(float::log(read_float(s, 0)), s, 4),
     }
 }
 
@@ -67,4 +69,5 @@ fn main() {
     replay(Function::Root, b"root", b"root.bin");
     replay(Function::Exp, b"exp", b"exp.bin");
     replay(Function::Exp, b"exp, any x", b"exp_any.bin");
+    replay(Function::Log, b"log", b"log.bin");
 }

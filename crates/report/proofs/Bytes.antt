@@ -1,13 +1,13 @@
 -- A report's bytes: 36 of them, nine words one after another.
 use Prim.Native.Nat.{ℕ, _/_, _%_, _^_, _≤_, _<_}
 use mathlib.Core.Path.{_≡_, refl}
-use mathlib.Core.List.{List, [], _∷_, map}
+use mathlib.Core.List.{List, map}
 use native.Mathlib.Omega.{arith}
 use lib.Dec.{lit<}
 use lib.ListN.{length, length-append, length-map}
 use Rattle.wire.specs.Words.{bytesOf, wordBytes, wordOf, writtenAt, writtenWithin}
-use Rattle.wire.proofs.Bytes.{length-bytes, length-words, one-word, three-words}
-use Rattle.wire.proofs.Written.{within, length-within, word-within, written-next, word-next}
+use Rattle.wire.proofs.Bytes.{length-bytes, length-words, three-words}
+use Rattle.wire.proofs.Written.{within, written-next, three-written}
 use Rattle.account.specs.declared.IdentifyStatus.{IdentifyStatus}
 use Rattle.account.specs.declared.IdentifyStatus.the-variants.{Running, Done, Unexcited, Saturated}
 use Rattle.report.specs.declared.Report.{Report}
@@ -34,14 +34,7 @@ length-report r = rw (length-append, length-bytes, length-words, length-map, six
 -- three words, written one after another
 pub fields-written : (n : ℕ) (l : List ℕ) → 12 ≤ length l
     → writtenWithin 8 (bytesOf 4 (n % 2 ^ 32)) (writtenWithin 4 (bytesOf 4 (n / 2 ^ 32 % 2 ^ 32)) (writtenWithin 0 (bytesOf 4 (n / 2 ^ 64)) l)) ≡ writtenAt 0 (bytesOf 12 n) l
-fields-written n l h =
-    let a = n / 2 ^ 64 in
-    let b = n / 2 ^ 32 % 2 ^ 32 in
-    let one = writtenWithin 0 (bytesOf 4 a) l in
-    let two = writtenWithin 4 (bytesOf 4 b) one in
-    let long : length one ≡ length l = length-within 0 (bytesOf 4 a) l in
-    let longer : length two ≡ length one = length-within 4 (bytesOf 4 b) one in
-    rw (word-within 8 (n % 2 ^ 32) two (omega arith), word-within 4 b one (omega arith), word-within 0 a l (omega arith), three-words n, ← one-word a, word-next 0 1 (a ∷ []) b l refl (omega arith)) (word-next 0 2 (a ∷ b ∷ []) (n % 2 ^ 32) l refl (omega arith))
+fields-written n l h = rw (three-words n) (three-written (n / 2 ^ 64) (n / 2 ^ 32 % 2 ^ 32) (n % 2 ^ 32) l h)
 
 -- the floats behind the fields
 pub report-written : (r : Report) (l : List ℕ) → 36 ≤ length l → writtenAt 12 (wordBytes (map wordOf (floatsOf (r .status)))) (writtenAt 0 (bytesOf 12 (packed 0 (fieldsOf r))) l) ≡ writtenWithin 0 (reportBytes r) l

@@ -1,6 +1,6 @@
 -- Bytes written over a list: how long it stays, when they fit, and how two writes beside each other are one.
 use Prim.Native.Nat.{ℕ, _+_, _*_, _/_, _%_, _≤_, _<_}
-use mathlib.Core.Path.{_≡_, _∙_}
+use mathlib.Core.Path.{_≡_, refl, _∙_}
 use mathlib.Core.Logic.{⊎-elim}
 use mathlib.Core.List.{List, [], _∷_, _++_, append-assoc, map, map-append}
 use native.Mathlib.Nat.{zero-add, add-zero, add-assoc, div-one}
@@ -87,6 +87,16 @@ length-words-written i k ws l e h = length-written i (wordBytes ws) l (rw (lengt
 pub word-next : (i k : ℕ) (ws : List ℕ) (w : ℕ) (l : List ℕ) → length ws ≡ k → i + 4 * k ≤ length l → writtenAt (i + 4 * k) (bytesOf 4 w) (writtenAt i (wordBytes ws) l) ≡ writtenAt i (wordBytes (ws ++ (w ∷ []))) l
 word-next i k ws w l e h =
     rw (words-append, one-word, ← e, ← length-words ws) (written-next i (wordBytes ws) (bytesOf 4 w) l (rw (length-words, e) h))
+
+-- three words, written one after another
+pub three-written : (a b c : ℕ) (l : List ℕ) → 12 ≤ length l
+    → writtenWithin 8 (bytesOf 4 c) (writtenWithin 4 (bytesOf 4 b) (writtenWithin 0 (bytesOf 4 a) l)) ≡ writtenAt 0 (wordBytes (a ∷ b ∷ c ∷ [])) l
+three-written a b c l h =
+    let one = writtenWithin 0 (bytesOf 4 a) l in
+    let two = writtenWithin 4 (bytesOf 4 b) one in
+    let long : length one ≡ length l = length-within 0 (bytesOf 4 a) l in
+    let longer : length two ≡ length one = length-within 4 (bytesOf 4 b) one in
+    rw (word-within 8 c two (omega arith), word-within 4 b one (omega arith), word-within 0 a l (omega arith), ← one-word a, word-next 0 1 (a ∷ []) b l refl (omega arith)) (word-next 0 2 (a ∷ b ∷ []) c l refl (omega arith))
 
 -- one more float of a list behind those before it
 pub float-next : (i k : ℕ) (xs : List Float) (d : Float) (l : List ℕ) → k < length xs → i + 4 * k ≤ length l → writtenAt (i + 4 * k) (bytesOf 4 (wordOf (getD xs k d))) (writtenAt i (wordBytes (map wordOf (take k xs))) l) ≡ writtenAt i (wordBytes (map wordOf (take (k + 1) xs))) l

@@ -34,3 +34,8 @@ writtenAt i bytes l = take i l ++ (bytes ++ drop (i + length bytes) l)
 -- the same where the elements fit; a list that they do not fit stays as it is
 unfoldable pub writtenWithin : ℕ → List ℕ → List ℕ → List ℕ
 writtenWithin i bytes l = cond (leb (i + length bytes) (length l)) (writtenAt i bytes l) l
+
+-- what a function over bytes answers, and its output as it leaves it
+pub record Ran : Type 0 where
+  pub result : ℕ
+  pub output : List ℕ

@@ -15,14 +15,14 @@ same-length c = search needs
 returns : tie.Need-returns
 returns c = search needs
 
-slice-relend-prefix-identify-byte-run : tie.Need-slice-relend-prefix-identify-byte-run
-slice-relend-prefix-identify-byte-run c = search needs
+slice-relend-prefix-byte-run : tie.Need-slice-relend-prefix-byte-run
+slice-relend-prefix-byte-run c = search needs
 
-slice-aggregate-identify-byte-run : tie.Need-slice-aggregate-identify-byte-run
-slice-aggregate-identify-byte-run c = sym (length-take-le _ _ (omega arith))
+slice-aggregate-byte-run : tie.Need-slice-aggregate-byte-run
+slice-aggregate-byte-run c = sym (length-take-le _ _ (omega arith))
 
-identify-byte-run-requires : tie.Need-identify-byte-run-requires
-identify-byte-run-requires c κs = search needs
+byte-run-requires : tie.Need-byte-run-requires
+byte-run-requires c κs = search needs
 
 holds-requires : tie.Need-holds-requires
 holds-requires c κs = search needs
@@ -40,9 +40,9 @@ run-agrees-spec =
     fill-requires
     same-length
     returns
-    slice-relend-prefix-identify-byte-run
-    slice-aggregate-identify-byte-run
-    identify-byte-run-requires
+    slice-relend-prefix-byte-run
+    slice-aggregate-byte-run
+    byte-run-requires
     holds-requires
     same-length-2
     returns-2)

@@ -1,15 +1,15 @@
--- `identify_byte_run` makes the tests of the definition in their order: the sizes, the configuration, and then the run.
+-- `byte_run` makes the tests of the definition in their order: the sizes, the configuration, and then the run.
 use mathlib.Core.Path.{_≡_, sym, ap, _∙_}
 use borrow.Author.Needs.{needs}
 use Rattle.account.specs.Rules.{broken}
 use Rattle.identify.specs.Seen.{openedBy}
 use Rattle.identify.specs.declared.Opened.the-variants.{Probe, Refused}
 use Rattle.byte_config.specs.ByteConfig.{configOf}
-use Rattle.byte_run.specs.ByteRun.{Ran}
+use Rattle.wire.specs.Words.{Ran}
 use Rattle.byte_run.proofs.Reading.{output-size}
 use Rattle.byte_run.proofs.ByteRuns.{not-sized, run-refused, run-started}
-use Rattle.byte_run.proofs.identify_byte_run.Statement.{statement}
-use Rattle.byte_run.proofs.identify_byte_run.Tie as tie
+use Rattle.byte_run.proofs.byte_run.Statement.{statement}
+use Rattle.byte_run.proofs.byte_run.Tie as tie
 
 is-sized-requires : tie.Need-is-sized-requires
 is-sized-requires c κs = search needs
@@ -69,8 +69,8 @@ returns-3 c =
     let is = not-sized (a .config .now) (a .calls .now) (a .output .now) (sym (c .before .is-sized .ensures) ∙ c .if1 .left) in
     (sym (ap (λ (x : Ran). x .result) is), sym (ap (λ (x : Ran). x .output) is))
 
-pub identify-byte-run-spec : {M : Type 1} → statement M
-identify-byte-run-spec =
+pub byte-run-spec : {M : Type 1} → statement M
+byte-run-spec =
     tie.close
     (tie.spec
     is-sized-requires

@@ -1,0 +1,3 @@
+pub mod Vectors
+pub mod LogSign
+pub mod ProperLag
