@@ -1,5 +1,5 @@
 //! Links the static library that the environment variable IDENTIFY_LIB names, where it is set:
-//! a path as libbyte_run.a, seen from the project's root where it is relative.
+//! a path as libexports.a, seen from the project's root where it is relative.
 
 use std::env;
 use std::path::PathBuf;

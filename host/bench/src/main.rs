@@ -7,8 +7,9 @@ use std::hint::black_box;
 use std::process::ExitCode;
 use std::time::{Duration, Instant};
 
-use library::ByteRun;
+use library::{ByteRun, PlainUnits};
 use reference::byte_run::{byte_run, written_len};
+use reference::plain_units::plain_units;
 
 const DT_S: f32 = 0.004;
 
@@ -86,6 +87,42 @@ fn times(run: &Run, library: ByteRun, repetitions: usize) -> Vec<(f64, f64)> {
     pairs
 }
 
+/// The reports of `count` done models, with poles from 0 to 1.
+fn reports(count: usize) -> Vec<u8> {
+    let mut random = Noise(1);
+    let mut bytes = Vec::with_capacity(36 * count);
+    for _ in 0..count {
+        let pole = 0.5 + 0.5 * random.next();
+        bytes.extend([0x40; 12]);
+        for value in [1.0 + pole, -pole, 0.01, 0.01, 0.0, DT_S] {
+            bytes.extend(value.to_bits().to_be_bytes());
+        }
+    }
+    bytes
+}
+
+/// Both times of the plain units of all reports in s, one pair a repetition; the outputs are
+/// compared.
+fn units_times(reports: &[u8], library: PlainUnits, repetitions: usize) -> Vec<(f64, f64)> {
+    let mut outputs = [(); 2].map(|()| vec![0; reports.len() / 3]);
+    let [ours, theirs] = &mut outputs;
+    let time = |units: PlainUnits, output: &mut [u8]| {
+        let start = Instant::now();
+        for (report, output) in reports.chunks_exact(36).zip(output.chunks_exact_mut(12)) {
+            black_box(units(black_box(report), output));
+        }
+        start.elapsed().as_secs_f64()
+    };
+    let pairs = (0..repetitions)
+        .map(|_| {
+            let library = time(library, ours);
+            (time(plain_units, theirs), library)
+        })
+        .collect();
+    assert_eq!(ours, theirs, "the outputs differ");
+    pairs
+}
+
 fn line(what: &str, pairs: &[(f64, f64)], per: f64, unit: &str) {
     println!(
         "{what:<44} reference {:>7.2} {unit}, library {:>7.2} {unit}, ratio {:.2}",
@@ -101,7 +138,7 @@ fn ending(ticks: usize, noise: f32) -> Run {
 }
 
 fn main() -> ExitCode {
-    let Some(library) = library::BYTE_RUN else {
+    let (Some(library), Some(units)) = (library::BYTE_RUN, library::PLAIN_UNITS) else {
         eprintln!("bench: set IDENTIFY_LIB to the static library and build again (host/README.md)");
         return ExitCode::from(2);
     };
@@ -129,6 +166,13 @@ fn main() -> ExitCode {
         "a step while running, of 200,000",
         &step,
         1e9 / running.calls() as f64,
+        "ns",
+    );
+    let count = 10_000;
+    line(
+        "plain units of a report, of 10,000",
+        &units_times(&reports(count), units, 501),
+        1e9 / count as f64,
         "ns",
     );
     ExitCode::SUCCESS

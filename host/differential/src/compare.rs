@@ -1,6 +1,9 @@
 //! One list through the reference and through the subject.
 
+use library::PlainUnits;
 use reference::checked::{Answer, checked_run};
+use reference::plain_units::{UNITS_LEN, plain_units};
+use reference::probe::REPORT_LEN;
 
 use crate::subject::Subject;
 
@@ -12,12 +15,20 @@ pub struct Input {
     pub output_len: usize,
 }
 
-/// Two answers that differ.
-pub struct Difference {
-    pub expected_result: u32,
-    pub expected: Vec<u8>,
+/// What a call returns, and its output after it.
+#[derive(Clone, Debug, PartialEq)]
+pub struct Returned {
     pub result: u32,
     pub output: Vec<u8>,
+}
+
+impl Returned {
+    /// What `call` returns over an output of `len` bytes.
+    pub fn by(len: usize, call: impl FnOnce(&mut [u8]) -> u32) -> Returned {
+        let mut output = untouched(len);
+        let result = call(&mut output);
+        Returned { result, output }
+    }
 }
 
 /// What the bytes of an output hold before a run: no two neighbours alike, so that a byte
@@ -26,21 +37,45 @@ fn untouched(len: usize) -> Vec<u8> {
     (0..len).map(|place| (place * 31 + 0xa5) as u8).collect()
 }
 
-/// The reference's answer, and the difference where the subject's return value or any byte of
-/// its output is another.
-pub fn compared(subject: Subject, input: &Input) -> (Answer, Option<Difference>) {
-    let mut expected = untouched(input.output_len);
-    let answer = checked_run(&input.config, &input.calls, &mut expected);
-    let mut output = untouched(input.output_len);
-    let result = (subject.byte_run)(&input.config, &input.calls, &mut output);
-    if result == answer.result && output == expected {
-        return (answer, None);
+/// A program's answers to a list: its byte run, and the plain units of the report in it.
+#[derive(Clone, Debug, PartialEq)]
+pub struct Answers {
+    pub run: Returned,
+    pub units: Option<Returned>,
+}
+
+impl Answers {
+    /// The answers of a run; one that is refused has no report.
+    fn of(run: Returned, plain_units: PlainUnits) -> Answers {
+        let report = run.output.get(..REPORT_LEN).filter(|_| run.result == 0);
+        let units =
+            report.map(|report| Returned::by(UNITS_LEN, |output| plain_units(report, output)));
+        Answers { run, units }
     }
-    let difference = Difference {
-        expected_result: answer.result,
-        expected,
-        result,
-        output,
-    };
-    (answer, Some(difference))
+}
+
+/// Two programs' answers that differ.
+pub struct Difference {
+    pub expected: Answers,
+    pub found: Answers,
+}
+
+/// The reference's answer, and the difference where the subject's return values or any byte of
+/// its outputs is another.
+pub fn compared(subject: Subject, input: &Input) -> (Answer, Option<Difference>) {
+    let Input {
+        config,
+        calls,
+        output_len,
+    } = input;
+    let mut output = untouched(*output_len);
+    let answer = checked_run(config, calls, &mut output);
+    let result = answer.result;
+    let expected = Answers::of(Returned { result, output }, plain_units);
+    let run = Returned::by(*output_len, |output| {
+        (subject.byte_run)(config, calls, output)
+    });
+    let found = Answers::of(run, subject.plain_units);
+    let difference = (found != expected).then_some(Difference { expected, found });
+    (answer, difference)
 }

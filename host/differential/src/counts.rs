@@ -4,6 +4,8 @@ use std::collections::BTreeMap;
 
 use reference::checked::{Answer, Ending};
 
+use crate::lag::Lag;
+
 #[derive(Default)]
 pub struct Counts {
     lists: u64,
@@ -11,6 +13,8 @@ pub struct Counts {
     families: BTreeMap<&'static str, BTreeMap<Ending, u64>>,
     half_ticks_recorded: BTreeMap<usize, u64>,
     half_ticks_integrated: BTreeMap<usize, u64>,
+    lags_recorded: BTreeMap<Lag, u64>,
+    lags_integrated: BTreeMap<Lag, u64>,
     rounds: BTreeMap<u32, u64>,
     turned_back: [u64; 3],
     extended: u64,
@@ -27,12 +31,13 @@ impl Counts {
             .entry(answer.ending)
             .or_default() += 1;
         if let Some(half_ticks) = answer.half_ticks {
-            let seen = if answer.ending.integrated() {
-                &mut self.half_ticks_integrated
+            let (delays, lags) = if answer.ending.integrated() {
+                (&mut self.half_ticks_integrated, &mut self.lags_integrated)
             } else {
-                &mut self.half_ticks_recorded
+                (&mut self.half_ticks_recorded, &mut self.lags_recorded)
             };
-            *seen.entry(half_ticks).or_default() += 1;
+            *delays.entry(half_ticks).or_default() += 1;
+            *lags.entry(Lag::of(answer.units)).or_default() += 1;
         }
         if answer.gain_fits > 0 && answer.half_ticks.is_some() {
             *self
@@ -81,6 +86,9 @@ impl Counts {
         println!("delays seen, in half ticks: lists");
         println!("  recorded   {}", pairs(&self.half_ticks_recorded));
         println!("  integrated {}", pairs(&self.half_ticks_integrated));
+        println!("lags of done reports: lists");
+        println!("  recorded   {}", pairs(&self.lags_recorded));
+        println!("  integrated {}", pairs(&self.lags_integrated));
         println!("rounds of the refinement: lists\n  {}", pairs(&self.rounds));
         let [six, seven, eight] = self.turned_back;
         println!("calls turned back: {six} by 6, {seven} by 7, {eight} by 8");

@@ -1,30 +1,37 @@
-//! Compares a subject's byte run with the reference's on many lists of calls.
+//! Compares a subject's byte run and plain units with the reference's, on many lists of calls and
+//! on reports of any bits.
 
 mod compare;
 mod counts;
 mod exhaustive;
+mod lag;
+mod progress;
+mod show;
 mod shrink;
 mod subject;
 #[cfg(test)]
 mod tests;
+mod units;
 
-use std::io::Write;
 use std::process::ExitCode;
-use std::time::{Duration, Instant};
 
-use compare::{Difference, Input, compared};
+use compare::{Input, compared};
 use counts::Counts;
 use lists::{FAMILIES, Family};
+use progress::Progress;
 use subject::Subject;
 
 const USAGE: &str = "\
 usage: differential [lists] [--seed S] [--count N] [--from N] [--family NAME]
        differential exhaustive
        differential last-tick
+       differential units [--seed S] [--count N] [--from N]
 lists       N lists of seed S, from list number --from on; of one family alone where it is named
 exhaustive  every list of up to five calls over a small alphabet
 last-tick   one list of 16,777,219 calls
-All take --subject library or --subject second.";
+units       the plain units of N reports of any bits, from report number --from on
+All take --subject library or --subject second. Without it lists go through the library where one
+was linked, else through the second program, and reports through both.";
 
 struct Options {
     what: What,
@@ -32,13 +39,15 @@ struct Options {
     count: u64,
     from: u64,
     family: Option<&'static Family>,
-    subject: Subject,
+    /// The one that is named.
+    subject: Option<Subject>,
 }
 
 enum What {
     Lists,
     Exhaustive,
     LastTick,
+    Units,
 }
 
 fn main() -> ExitCode {
@@ -69,7 +78,7 @@ fn options() -> Result<Options, String> {
         count: 10_000,
         from: 0,
         family: None,
-        subject: subject::named(None)?,
+        subject: None,
     };
     let mut words = std::env::args().skip(1);
     while let Some(word) = words.next() {
@@ -82,11 +91,12 @@ fn options() -> Result<Options, String> {
             "lists" => options.what = What::Lists,
             "exhaustive" => options.what = What::Exhaustive,
             "last-tick" => options.what = What::LastTick,
+            "units" => options.what = What::Units,
             "--seed" => options.seed = number(&value()?)?,
             "--count" => options.count = number(&value()?)?,
             "--from" => options.from = number(&value()?)?,
             "--family" => options.family = Some(family(&value()?)?),
-            "--subject" => options.subject = subject::named(Some(&value()?))?,
+            "--subject" => options.subject = Some(subject::named(&value()?)?),
             _ => return Err(USAGE.to_string()),
         }
     }
@@ -116,12 +126,10 @@ fn family(name: &str) -> Result<&'static Family, String> {
 /// Compares; false at the first difference, which is printed.
 fn run(options: &Options) -> bool {
     let Options {
-        seed,
-        from,
-        count,
-        subject,
-        ..
+        seed, from, count, ..
     } = *options;
+    let library = subject::library();
+    let subject = options.subject.or(library).unwrap_or(subject::SECOND);
     match options.what {
         What::Lists => {
             println!(
@@ -159,6 +167,18 @@ fn run(options: &Options) -> bool {
                 std::iter::once(("last tick", exhaustive::last_tick())),
             )
         }
+        What::Units => {
+            let subjects = match options.subject {
+                Some(subject) => vec![subject],
+                None => library.into_iter().chain([subject::SECOND]).collect(),
+            };
+            let names: Vec<&str> = subjects.iter().map(|subject| subject.name).collect();
+            println!(
+                "seed {seed}, {count} reports from number {from} on, {} against the reference",
+                names.join(" and ")
+            );
+            units::compare_all(&subjects, seed, from..from + count)
+        }
     }
 }
 
@@ -167,79 +187,23 @@ fn compare_all(
     all: u64,
     inputs: impl Iterator<Item = (&'static str, Input)>,
 ) -> bool {
-    let start = Instant::now();
-    let mut shown = start;
+    let mut progress = Progress::default();
     let mut counts = Counts::default();
     for (number, (family, input)) in inputs.enumerate() {
         let (answer, difference) = compared(subject, &input);
         counts.add(family, input.calls.len() / 12, &answer);
         if let Some(difference) = difference {
             println!("\nthe answers to list {number} of this run differ; family: {family}");
-            show_smallest(subject, input, difference);
+            show::smallest(subject, input, difference);
             return false;
         }
-        if shown.elapsed() > Duration::from_secs(2) {
-            shown = Instant::now();
-            let (lists, seconds) = (counts.lists(), start.elapsed().as_secs());
-            eprint!(
-                "\r{lists} of {all} lists, {} integrated, {seconds} s ",
-                counts.integrated()
-            );
-            std::io::stderr().flush().ok();
-        }
+        progress.show(|| {
+            let (lists, integrated) = (counts.lists(), counts.integrated());
+            format!("{lists} of {all} lists, {integrated} integrated")
+        });
     }
     eprintln!();
     counts.print();
-    println!("no difference; {:.1} s", start.elapsed().as_secs_f64());
+    println!("no difference; {:.1} s", progress.seconds());
     true
-}
-
-/// Prints the smallest input found that differs too. The last tick's list is shown as it is.
-fn show_smallest(subject: Subject, input: Input, difference: Difference) {
-    if input.calls.len() > 1 << 24 {
-        show_difference(subject, &difference);
-        return;
-    }
-    let input = shrink::shrunk(subject, input);
-    let difference = compared(subject, &input).1.unwrap_or(difference);
-    println!(
-        "the smallest input found has {} calls:",
-        input.calls.len() / 12
-    );
-    println!("configuration {}", hex(&input.config));
-    for call in input.calls.chunks(12) {
-        println!("call          {}", hex(call));
-    }
-    println!("output length {}", input.output_len);
-    println!("reference     {}", hex(&difference.expected));
-    println!("subject       {}", hex(&difference.output));
-    show_difference(subject, &difference);
-}
-
-fn show_difference(subject: Subject, difference: &Difference) {
-    let Difference {
-        expected_result,
-        expected,
-        result,
-        output,
-    } = difference;
-    println!(
-        "the reference returns {expected_result}, {} returns {result}",
-        subject.name
-    );
-    let places: Vec<usize> = (0..output.len())
-        .filter(|&place| expected[place] != output[place])
-        .collect();
-    let shown = &places[..places.len().min(40)];
-    println!("{} bytes differ, the first at {shown:?}", places.len());
-}
-
-/// Hexadecimal, a space after every four bytes.
-fn hex(bytes: &[u8]) -> String {
-    let word = |word: &[u8]| {
-        word.iter()
-            .map(|byte| format!("{byte:02X}"))
-            .collect::<String>()
-    };
-    bytes.chunks(4).map(word).collect::<Vec<_>>().join(" ")
 }

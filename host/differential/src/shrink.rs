@@ -2,7 +2,7 @@
 
 use std::time::{Duration, Instant};
 
-use crate::compare::{Input, compared};
+use crate::compare::{Difference, Input, compared};
 use crate::subject::Subject;
 
 const CALL: usize = 12;
@@ -32,12 +32,16 @@ pub fn shrunk(subject: Subject, input: Input) -> Input {
     }
 }
 
-/// The two return values of a difference.
-type Kind = (u32, u32);
+/// The two return values of a difference, and whether the runs differ or their plain units alone.
+type Kind = (u32, u32, bool);
 
 fn kind(subject: Subject, input: &Input) -> Option<Kind> {
-    let difference = compared(subject, input).1?;
-    Some((difference.expected_result, difference.result))
+    let Difference { expected, found } = compared(subject, input).1?;
+    Some((
+        expected.run.result,
+        found.run.result,
+        expected.run != found.run,
+    ))
 }
 
 struct Shrinker {
@@ -99,17 +103,11 @@ impl Shrinker {
         }
     }
 
-    /// The first simple value that keeps the difference, else the old one with fewer digits.
+    /// The first simpler word that keeps the difference.
     fn simplify_word(&mut self, place: usize, bytes: fn(&mut Input) -> &mut Vec<u8>) {
-        let simple = [0.0f32, 1.0, 0.5, 0.25, 2.0].map(f32::to_bits);
         let range = 4 * place..4 * place + 4;
         let old = bytes(&mut self.input)[range.clone()].try_into();
-        let old = u32::from_be_bytes(old.expect("four bytes"));
-        if simple.contains(&old) {
-            return;
-        }
-        let fewer = [0xff80_0000, 0xfff0_0000, 0xffff_0000, 0xffff_ff00].map(|mask| old & mask);
-        for word in simple.into_iter().chain(fewer) {
+        for word in simpler(u32::from_be_bytes(old.expect("four bytes"))) {
             let mut changed = self.input.clone();
             bytes(&mut changed)[range.clone()].copy_from_slice(&word.to_be_bytes());
             if self.try_change(changed) {
@@ -117,4 +115,15 @@ impl Shrinker {
             }
         }
     }
+}
+
+/// Words simpler than `old`, the simplest first: a few values, then its own with fewer digits.
+pub fn simpler(old: u32) -> Vec<u32> {
+    let simple = [0.0f32, 1.0, 0.5, 0.25, 2.0].map(f32::to_bits);
+    if simple.contains(&old) {
+        return Vec::new();
+    }
+    let fewer = [0xff80_0000, 0xfff0_0000, 0xffff_0000, 0xffff_ff00].map(|mask| old & mask);
+    let words = simple.into_iter().chain(fewer);
+    words.filter(|word| *word != old).collect()
 }

@@ -1,32 +1,36 @@
 //! What is held against the reference.
 
-/// A program with 01's byte run.
+use library::{ByteRun, PlainUnits};
+
+/// A program with 01's byte run and 02's plain units.
 #[derive(Clone, Copy)]
 pub struct Subject {
     pub name: &'static str,
-    pub byte_run: fn(&[u8], &[u8], &mut [u8]) -> u32,
+    pub byte_run: ByteRun,
+    pub plain_units: PlainUnits,
 }
 
-const SECOND: Subject = Subject {
+pub const SECOND: Subject = Subject {
     name: "the second program",
     byte_run: second::byte_run,
+    plain_units: second::plain_units,
 };
 
-/// The subject by its name: `library`, where one was linked, or `second`. With no name, the
-/// library where there is one.
-pub fn named(name: Option<&str>) -> Result<Subject, String> {
-    match name {
-        None => Ok(library().unwrap_or(SECOND)),
-        Some("second") => Ok(SECOND),
-        Some("library") => library()
-            .ok_or_else(|| "no library was linked: build with IDENTIFY_LIB=PATH".to_string()),
-        Some(other) => Err(format!("no subject is called {other:?}: library or second")),
-    }
+/// The library, where one was linked.
+pub fn library() -> Option<Subject> {
+    Some(Subject {
+        name: "the static library",
+        byte_run: library::BYTE_RUN?,
+        plain_units: library::PLAIN_UNITS?,
+    })
 }
 
-fn library() -> Option<Subject> {
-    library::BYTE_RUN.map(|byte_run| Subject {
-        name: "the static library",
-        byte_run,
-    })
+/// The subject by its name: `library`, where one was linked, or `second`.
+pub fn named(name: &str) -> Result<Subject, String> {
+    match name {
+        "second" => Ok(SECOND),
+        "library" => library()
+            .ok_or_else(|| "no library was linked: build with IDENTIFY_LIB=PATH".to_string()),
+        other => Err(format!("no subject is called {other:?}: library or second")),
+    }
 }

@@ -1,7 +1,8 @@
 use crate::compare::{Input, compared};
 use crate::exhaustive;
 use crate::shrink::shrunk;
-use crate::subject::{Subject, named};
+use crate::subject::{SECOND, Subject};
+use crate::units;
 
 fn differs(subject: Subject, input: &Input) -> bool {
     compared(subject, input).1.is_some()
@@ -24,9 +25,8 @@ fn inputs(seed: u64, count: u64) -> impl Iterator<Item = (&'static str, Input)> 
 
 #[test]
 fn the_second_program_agrees_with_the_reference() {
-    let second = named(Some("second")).expect("a subject");
     for (number, (family, input)) in inputs(20, 2_000).enumerate() {
-        assert!(!differs(second, &input), "list {number}, {family}");
+        assert!(!differs(SECOND, &input), "list {number}, {family}");
     }
 }
 
@@ -38,9 +38,8 @@ fn a_seed_gives_the_same_lists() {
 
 #[test]
 fn short_lists_agree() {
-    let second = named(Some("second")).expect("a subject");
     for input in exhaustive::inputs().step_by(61) {
-        assert!(!differs(second, &input), "{input:?}");
+        assert!(!differs(SECOND, &input), "{input:?}");
     }
 }
 
@@ -80,10 +79,7 @@ fn half_delay_off(config: &[u8], calls: &[u8], output: &mut [u8]) -> u32 {
 
 /// A faulty subject is found among the lists, and its input made small.
 fn found(byte_run: fn(&[u8], &[u8], &mut [u8]) -> u32) -> Input {
-    let subject = Subject {
-        name: "faulty",
-        byte_run,
-    };
+    let subject = Subject { byte_run, ..SECOND };
     let (_, input) = inputs(21, 3_000)
         .find(|(_, input)| differs(subject, input))
         .expect("found");
@@ -115,8 +111,8 @@ fn a_refused_run_is_compared_too() {
         0
     }
     let subject = Subject {
-        name: "faulty",
         byte_run: zero,
+        ..SECOND
     };
     let input = Input {
         config: vec![0; 24],
@@ -125,5 +121,141 @@ fn a_refused_run_is_compared_too() {
     };
     let (answer, difference) = compared(subject, &input);
     assert_eq!(answer.result, 1);
-    assert_eq!(difference.expect("a difference").result, 0);
+    assert_eq!(difference.expect("a difference").found.run.result, 0);
+}
+
+#[test]
+fn the_plain_units_of_any_report_agree() {
+    for number in 0..200_000 {
+        let report = units::input(22, number);
+        assert!(units::difference(SECOND, &report).is_none(), "{report:?}");
+    }
+}
+
+/// A change to the second program's plain units, made where the answer holds both numbers: the
+/// report's floats, and the answer's lag and acceleration.
+type Change = fn([f32; 6], &mut f32, &mut f32);
+
+fn changed(report: &[u8], output: &mut [u8], change: Change) -> u32 {
+    let result = second::plain_units(report, output);
+    if result == 0 && output[3] == 1 {
+        let word = |bytes: &[u8]| f32::from_bits(u32::from_be_bytes(bytes.try_into().unwrap()));
+        let floats = std::array::from_fn(|place| word(&report[12 + 4 * place..16 + 4 * place]));
+        let (mut lag, mut acceleration) = (word(&output[4..8]), word(&output[8..]));
+        change(floats, &mut lag, &mut acceleration);
+        output[4..8].copy_from_slice(&float::bits(lag).to_be_bytes());
+        output[8..].copy_from_slice(&float::bits(acceleration).to_be_bytes());
+    }
+    result
+}
+
+/// The lag from a logarithm that is not narrowed.
+fn not_narrowed(report: &[u8], output: &mut [u8]) -> u32 {
+    changed(report, output, |[_, r2, _, _, _, dt_s], lag, _| {
+        if r2 < 0.0 {
+            *lag = (-f64::from(dt_s) / f64::from(-r2).ln()) as f32;
+        }
+    })
+}
+
+/// A zero before the three moment weights.
+fn zero_before(report: &[u8], output: &mut [u8]) -> u32 {
+    changed(
+        report,
+        output,
+        |[_, r2, m0, m1, m2, dt_s], _, acceleration| {
+            *acceleration = (0.0 + m0 + m1 + m2) / ((1.0 - float::max_zero(-r2)) * dt_s);
+        },
+    )
+}
+
+/// Divided by one factor and then by the other.
+fn divided_twice(report: &[u8], output: &mut [u8]) -> u32 {
+    changed(
+        report,
+        output,
+        |[_, r2, m0, m1, m2, dt_s], _, acceleration| {
+            *acceleration = (m0 + m1 + m2) / (1.0 - float::max_zero(-r2)) / dt_s;
+        },
+    )
+}
+
+/// A pole below 0 taken as it is.
+fn pole_below_0(report: &[u8], output: &mut [u8]) -> u32 {
+    changed(
+        report,
+        output,
+        |[_, r2, m0, m1, m2, dt_s], _, acceleration| {
+            *acceleration = (m0 + m1 + m2) / ((1.0 + r2) * dt_s);
+        },
+    )
+}
+
+/// A lag for a report of any kind.
+fn any_kind(report: &[u8], output: &mut [u8]) -> u32 {
+    let mut done = report.to_vec();
+    if let Some(head) = done.first_mut() {
+        *head = *head & 0x3f | 0x40;
+    }
+    second::plain_units(&done, output)
+}
+
+/// Zeros written where the sizes are wrong.
+fn writes_zeros(report: &[u8], output: &mut [u8]) -> u32 {
+    let result = second::plain_units(report, output);
+    if result == 9 {
+        output.fill(0);
+    }
+    result
+}
+
+/// A longer output taken too.
+fn takes_more(report: &[u8], output: &mut [u8]) -> u32 {
+    let len = output.len().min(12);
+    second::plain_units(report, &mut output[..len])
+}
+
+#[test]
+fn wrong_plain_units_are_found_and_made_simple() {
+    for (name, plain_units) in [
+        ("not narrowed", not_narrowed as library::PlainUnits),
+        ("zero before", zero_before),
+        ("divided twice", divided_twice),
+        ("pole below 0", pole_below_0),
+        ("any kind", any_kind),
+        ("zeros written", writes_zeros),
+        ("longer output", takes_more),
+    ] {
+        let subject = Subject {
+            plain_units,
+            ..SECOND
+        };
+        let differs = |report: &_| units::difference(subject, report).is_some();
+        let report = (0..20_000)
+            .map(|number| units::input(23, number))
+            .find(differs)
+            .unwrap_or_else(|| panic!("{name} is not found"));
+        let small = units::shrunk(subject, report);
+        assert!(differs(&small), "{name}");
+        // Counts and the first rate weight, which are not looked at.
+        assert!(
+            small.bytes.iter().skip(4).take(12).all(|byte| *byte == 0),
+            "{name}"
+        );
+    }
+}
+
+#[test]
+fn wrong_plain_units_of_a_list_are_found() {
+    let subject = Subject {
+        plain_units: not_narrowed,
+        ..SECOND
+    };
+    let (_, input) = inputs(21, 3_000)
+        .find(|(_, input)| differs(subject, input))
+        .expect("found");
+    let difference = compared(subject, &shrunk(subject, input)).1;
+    let difference = difference.expect("a difference");
+    assert_eq!(difference.expected.run, difference.found.run);
+    assert_ne!(difference.expected.units, difference.found.units);
 }

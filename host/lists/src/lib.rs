@@ -1,8 +1,9 @@
-//! Lists of calls from a seed, in families.
+//! Lists of calls from a seed, and reports of odd models, in families.
 
 mod families;
 mod flight;
 pub mod random;
+pub mod reports;
 
 pub use families::{FAMILIES, Family};
 pub use reference::byte_run::Call;

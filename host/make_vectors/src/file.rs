@@ -66,7 +66,7 @@ impl File {
         let (records, size) = (self.records, self.bytes.len());
         let mut text = format!("{name}.bin: {records} records, {size} bytes, big-endian.\n{how}");
         if !self.families.is_empty() {
-            text += "Records per family of lists:\n";
+            text += "Records per family:\n";
         }
         for (family, count) in &self.families {
             text += &format!("  {family}: {count}\n");

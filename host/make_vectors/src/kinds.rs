@@ -3,7 +3,7 @@
 //! In a layout f is a float's 32 bits, w a 32-bit whole number.
 
 use crate::file::File;
-use crate::{fits, scalars, sweep, window};
+use crate::{fits, scalars, sweep, units, window};
 
 pub struct Kind {
     pub name: &'static str,
@@ -13,7 +13,7 @@ pub struct Kind {
 }
 
 /// All files but runs.bin.
-pub const KINDS: [Kind; 20] = [
+pub const KINDS: [Kind; 22] = [
     Kind {
         name: "narrow",
         layout: "f64 bits (8 bytes), f narrowed",
@@ -34,6 +34,13 @@ pub const KINDS: [Kind; 20] = [
         inputs: "all exponents below 0, both zeros, -104 and other edges with twenty neighbours on each side, \
                  minus infinity, ticks over lags; random values down to -110",
         make: scalars::exp,
+    },
+    Kind {
+        name: "log",
+        layout: "f, f its logarithm",
+        inputs: "all exponents and signs, subnormals, 0.75 and 1.5 times each power of two and 1 with their \
+                 neighbours, infinities, NaNs; random positive values and values from 0 to 1",
+        make: scalars::log,
     },
     Kind {
         name: "max_zero",
@@ -154,6 +161,13 @@ pub const KINDS: [Kind; 20] = [
         inputs: "windows that lists leave: cut to 12, 13 and 14 samples, too few samples, no position, whole \
                  and half steps, refinements that end early",
         make: fits::integrated,
+    },
+    Kind {
+        name: "units",
+        layout: "36 bytes of a report; w 1 for a lag and an acceleration, else 0; f lag_s, f accel_radps2",
+        inputs: "reports that lists leave, some of each ending; reports of any kind and of odd models, as many \
+                 of each family",
+        make: units::units,
     },
 ];
 

@@ -1,4 +1,4 @@
-//! Vector files of the scalar functions: narrow, root, exp, max_zero, min, finite.
+//! Vector files of the scalar functions: narrow, root, exp, log, max_zero, min, finite.
 
 use std::collections::BTreeSet;
 
@@ -163,6 +163,25 @@ pub fn exp(seed: u64) -> File {
         x.to_bits()
     });
     unary(&inputs, |value| float::bits(float::exp(value)))
+}
+
+pub fn log(seed: u64) -> File {
+    let mut random = Random::numbered(seed, 7);
+    let mut inputs = all_exponents();
+    inputs.extend(subnormals());
+    // The ends of m's range, 0.75 and 1.5 times a power of two, and their neighbours.
+    let normal = (1..0xff).map(|field| field << 23 | 0x40_0000);
+    let subnormal = (0..22).map(|place| 3 << place);
+    for end in normal.chain(subnormal) {
+        inputs.extend([end - 1, end, end + 1]);
+    }
+    let one = 1.0f32.to_bits();
+    inputs.extend(one - 20..=one + 20);
+    let inputs = filled(inputs, || match random.below(2) {
+        0 => random.word() & 0x7fff_ffff,
+        _ => (random.unit() as f32).to_bits(),
+    });
+    unary(&inputs, |value| float::bits(float::log(value)))
 }
 
 pub fn max_zero(seed: u64) -> File {

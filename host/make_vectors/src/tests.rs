@@ -1,7 +1,7 @@
 //! The files are read back by their layouts and held against plain arithmetic and against the
 //! second program.
 
-use crate::{file::File, fits, runs, scalars, sweep, window};
+use crate::{file::File, fits, runs, scalars, sweep, units, window};
 
 /// Reads words off a file.
 struct Reader<'a> {
@@ -57,6 +57,50 @@ fn scalar_files_are_the_hardwares_answers() {
         let (x, power) = (reader.float(), reader.float());
         assert!(x <= 0.0 && (0.0..=1.0).contains(&power));
     }
+}
+
+#[test]
+fn logarithms_are_within_one_unit_of_the_true_ones() {
+    let file = scalars::log(7);
+    assert!((4_500..4_700).contains(&file.records()));
+    let mut reader = Reader::of(&file);
+    let [mut nothing, mut positive] = [0; 2];
+    while !reader.at_end() {
+        let (value, logarithm) = (reader.float(), reader.word());
+        let expected = float::bits((f64::from(value)).ln() as f32);
+        if value > 0.0 && value < f32::INFINITY {
+            positive += 1;
+            assert!(logarithm.abs_diff(expected) <= 1, "log of {value}");
+        } else {
+            nothing += 1;
+            assert_eq!(logarithm, expected, "log of {value}");
+        }
+    }
+    assert!(nothing > 1_000 && positive > 3_000);
+}
+
+#[test]
+fn the_second_program_replays_the_units() {
+    let file = units::units(7);
+    assert_eq!(file.records(), 4_000);
+    let mut reader = Reader::of(&file);
+    let [mut not_done, mut neither, mut zero, mut positive, mut odd] = [0; 5];
+    while !reader.at_end() {
+        let (report, answer) = (reader.bytes(36), reader.bytes(12));
+        let mut ours = [0xa5; 12];
+        assert_eq!(second::plain_units(report, &mut ours), 0);
+        assert_eq!(ours, answer);
+        let mut words = Reader { left: answer };
+        let (both, lag_s) = (words.word(), words.float());
+        match (report[0] >> 6, both) {
+            (1, 0) => neither += 1,
+            (1, _) if lag_s == 0.0 => zero += 1,
+            (1, _) if lag_s > 0.0 => positive += 1,
+            (1, _) => odd += 1,
+            _ => not_done += 1,
+        }
+    }
+    assert!(not_done > 500 && neither > 300 && zero > 300 && positive > 800 && odd > 100);
 }
 
 #[test]

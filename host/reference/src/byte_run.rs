@@ -77,7 +77,8 @@ pub fn calls_of(bytes: &[u8]) -> impl Iterator<Item = Call> {
     })
 }
 
-fn word_at(bytes: &[u8], place: usize) -> u32 {
+/// Word `place` of `bytes`.
+pub(crate) fn word_at(bytes: &[u8], place: usize) -> u32 {
     let word = bytes[4 * place..4 * place + 4]
         .try_into()
         .expect("four bytes");

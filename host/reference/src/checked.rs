@@ -3,6 +3,7 @@
 use crate::access::{self, Class, IdentifyStatus};
 use crate::account::Account;
 use crate::byte_run::{self, calls_of, config_of};
+use crate::plain_units::{PlainUnits, of_model};
 use crate::probe::{Probe, REPORT_LEN};
 
 /// How a list ends.
@@ -68,6 +69,8 @@ pub struct Answer {
     pub ending: Ending,
     /// The delay of a done probe in half ticks, 2 to 21.
     pub half_ticks: Option<usize>,
+    /// The plain units of a done probe, where its model has them.
+    pub units: Option<PlainUnits>,
     /// The gain fits that an ended probe made.
     pub gain_fits: u32,
     /// How often each of 6, 7 and 8 turned a call back.
@@ -86,6 +89,7 @@ pub fn checked_run(config: &[u8], calls: &[u8], output: &mut [u8]) -> Answer {
                 result,
                 ending: Ending::Refused(result),
                 half_ticks: None,
+                units: None,
                 gain_fits: 0,
                 turned_back: [0; 3],
                 extended: false,
@@ -103,6 +107,10 @@ pub fn checked_run(config: &[u8], calls: &[u8], output: &mut [u8]) -> Answer {
                 result: 0,
                 ending: ending(&probe, &account),
                 half_ticks: probe.half_ticks(),
+                units: match probe.status() {
+                    IdentifyStatus::Done(model) => of_model(&model),
+                    _ => None,
+                },
                 gain_fits: probe.gain_fits(),
                 turned_back: [6, 7, 8].map(|number| {
                     account

@@ -1,14 +1,15 @@
 //! The reference's answers: identify.rs of stable-flight, compiled from a checkout with the
-//! stand-ins of document 01 for `nalgebra` and `libm`, and 01's byte run over it.
+//! stand-ins of documents 01 and 02 for `nalgebra` and `libm`, and 01's byte run over it.
 //!
 //! build.rs lists every change to the Rust. [`access`] reaches its private parts, [`probe`]
 //! puts 01's refusals and report around it, [`byte_run`] is 01's byte run, [`account`] counts
 //! apart from it what a list of calls must leave behind, and [`checked`] holds the two
-//! together.
+//! together. [`plain_units`] gives 02's lag and acceleration of a report.
 
 pub mod account;
 pub mod byte_run;
 pub mod checked;
+pub mod plain_units;
 pub mod probe;
 
 pub use tuning::identify::access;

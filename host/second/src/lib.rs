@@ -1,11 +1,13 @@
-//! A second program written from document 01 alone, for holding against the reference. It
+//! A second program written from documents 01 and 02 alone, for holding against the reference. It
 //! shares no code with it: root and narrowing are the hardware's, the window is a list, and
 //! what a fit can know before its loops is made before them.
 
 mod fits;
 mod probe;
+mod units;
 
 use probe::{Extension, Probe};
+pub use units::plain_units;
 
 /// Document 01's byte run.
 pub fn byte_run(config: &[u8], calls: &[u8], output: &mut [u8]) -> u32 {
@@ -13,15 +15,6 @@ pub fn byte_run(config: &[u8], calls: &[u8], output: &mut [u8]) -> u32 {
     if config.len() != 24 || calls.len() != 12 * count || output.len() < 36 + 4 * count {
         return 9;
     }
-    let word = |bytes: &[u8], n: usize| {
-        u32::from_be_bytes([
-            bytes[4 * n],
-            bytes[4 * n + 1],
-            bytes[4 * n + 2],
-            bytes[4 * n + 3],
-        ])
-    };
-    let number = |bytes: &[u8], n: usize| f32::from_bits(word(bytes, n));
     let extension = if word(config, 3) == 0 {
         None
     } else {
@@ -50,6 +43,20 @@ pub fn byte_run(config: &[u8], calls: &[u8], output: &mut [u8]) -> u32 {
     }
     output[..36].copy_from_slice(&probe.report());
     0
+}
+
+/// The 32-bit field n.
+fn word(bytes: &[u8], n: usize) -> u32 {
+    u32::from_be_bytes([
+        bytes[4 * n],
+        bytes[4 * n + 1],
+        bytes[4 * n + 2],
+        bytes[4 * n + 3],
+    ])
+}
+
+fn number(bytes: &[u8], n: usize) -> f32 {
+    f32::from_bits(word(bytes, n))
 }
 
 /// The bits of a float, every NaN's the same; tested on bits that the compiler cannot see

@@ -1,8 +1,12 @@
 //! The scalar functions of document 01, "Stand-ins for libm and nalgebra", worked out from the
-//! bits: root, narrowing, exp, max(v, 0), min.
+//! bits: root, narrowing, exp, max(v, 0), min; and document 02's logarithm.
 
 /// The bits that every NaN of a report or a vector file has.
 pub const NAN_BITS: u32 = 0x7fc0_0000;
+
+/// The logarithm of 2.
+#[allow(clippy::approx_constant, reason = "02's own digits")]
+const LOG_OF_2: f64 = 0.6931471805599453;
 
 /// The bits of `value`, a NaN's always [`NAN_BITS`].
 ///
@@ -34,13 +38,7 @@ pub fn root(value: f32) -> f32 {
     if value.is_nan() || value < 0.0 {
         return f32::NAN;
     }
-    // value = significand · 2^exponent
-    let field = (value.to_bits() >> 23) as i32;
-    let fraction = value.to_bits() & 0x007f_ffff;
-    let (significand, exponent) = match field {
-        0 => (fraction, -149),
-        _ => (fraction | 0x0080_0000, field - 150),
-    };
+    let (significand, exponent) = parts(value);
     // The highest set bit to place 23, or to 24 where that makes the exponent odd.
     let shift = significand.leading_zeros() as i32 - 8;
     let (shift, exponent) = match (exponent - shift) % 2 {
@@ -59,6 +57,16 @@ pub fn root(value: f32) -> f32 {
     };
     // A carry to 2^24 moves into the exponent's field by itself.
     f32::from_bits((((half_exponent + 149) as u32) << 23) + nearest as u32)
+}
+
+/// The significand and exponent of a positive finite `value`: significand · 2^exponent.
+fn parts(value: f32) -> (u32, i32) {
+    let field = (value.to_bits() >> 23) as i32;
+    let fraction = value.to_bits() & 0x007f_ffff;
+    match field {
+        0 => (fraction, -149),
+        _ => (fraction | 0x0080_0000, field - 150),
+    }
 }
 
 /// The whole part of the root of a `square` below 2^48, bit by bit.
@@ -139,6 +147,35 @@ pub fn exp(x: f32) -> f32 {
         power *= power;
     }
     narrow(power)
+}
+
+/// The logarithm of a positive finite value, in f64, narrowed once: k times that of 2, and eight
+/// terms of the series for m, where the value is m · 2^k and m from 0.75 to below 1.5.
+/// Minus infinity of both zeros, infinity of infinity, NaN of a NaN and of a value below 0.
+pub fn log(value: f32) -> f32 {
+    if value == 0.0 {
+        return f32::NEG_INFINITY;
+    }
+    if value.is_nan() || value < 0.0 {
+        return f32::NAN;
+    }
+    if value == f32::INFINITY {
+        return value;
+    }
+    let (significand, exponent) = parts(value);
+    // The highest set bit to place 23: m from 1 to below 2, and from 1.5 on its half.
+    let shift = significand.leading_zeros() as i32 - 8;
+    let significand = significand << shift;
+    let places = if significand < 0x00c0_0000 { 23 } else { 24 };
+    let m = f64::from(significand) / f64::from(1 << places);
+    let k = f64::from(exponent - shift + places);
+    let z = (m - 1.0) / (m + 1.0);
+    let q = z * z;
+    let mut sum = 1.0 / 15.0;
+    for n in [13.0, 11.0, 9.0, 7.0, 5.0, 3.0, 1.0] {
+        sum = 1.0 / n + q * sum;
+    }
+    narrow(k * LOG_OF_2 + (2.0 * z) * sum)
 }
 
 /// max(v, 0) in f32: `value` if it is above 0, else +0, a NaN too.

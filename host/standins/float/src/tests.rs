@@ -131,6 +131,52 @@ fn exp_stays_in_0_to_1_and_near_the_true_value() {
 }
 
 #[test]
+fn logarithms_worked_out_by_hand() {
+    let log_bits = |bits: u32| super::bits(log(f32::from_bits(bits)));
+    assert_eq!(log_bits(0x3f40_0000), 0xbe93_4b11, "0.75");
+    assert_eq!(log_bits(0x3fc0_0000), 0x3ecf_991f, "1.5");
+    assert_eq!(log_bits(0x3f7f_ffff), 0xb380_0000, "just below 1");
+    assert_eq!(log_bits(0x0000_0001), 0xc2ce_8ed0, "the least value");
+    assert_eq!(log_bits(0x3f80_0000), 0, "1");
+    for zero in [0, 0x8000_0000] {
+        assert_eq!(log_bits(zero), 0xff80_0000);
+    }
+    assert_eq!(log_bits(0x7f80_0000), 0x7f80_0000);
+    for nothing in [
+        0x8000_0001,
+        0xbf80_0000,
+        0xff80_0000,
+        0x7fc0_0000,
+        0xff80_0001,
+    ] {
+        assert_eq!(log_bits(nothing), NAN_BITS);
+    }
+}
+
+#[test]
+fn log_is_within_one_unit_of_the_true_value() {
+    let mut random = Random(4);
+    let near = |value: f32| {
+        let (ours, theirs) = (log(value), f64::from(value).ln() as f32);
+        let distance = (ours.to_bits() as i64 - theirs.to_bits() as i64).abs();
+        assert!(distance <= 1, "log of {value}: {ours}, not {theirs}");
+    };
+    // Both ends of m's range for every exponent, and the values beside them.
+    for field in 0..=0xfeu32 {
+        for fraction in [0, 1, 0x3f_ffff, 0x40_0000, 0x40_0001, 0x7f_ffff] {
+            near(f32::from_bits((field << 23 | fraction).max(1)));
+        }
+    }
+    for place in 0..23 {
+        near(f32::from_bits(1 << place));
+        near(f32::from_bits(3 << place));
+    }
+    for _ in 0..1_000_000 {
+        near(f32::from_bits(random.next() as u32 % 0x7f7f_ffff + 1));
+    }
+}
+
+#[test]
 fn finite_is_rusts() {
     for high in 0..=0x1ffu32 {
         for low in [0, 1, 0x40_0000, 0x7f_ffff] {
