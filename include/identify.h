@@ -1,8 +1,8 @@
-/* The rate identifier: one probe over a list of calls, as bytes.
+/* The rate identifier: one probe over a list of calls, as bytes; and its model's lag and acceleration in plain units.
  *
- * The library is built by `rt staticlib byte_run` (target/staticlib/libbyte_run.a, x86-64).
+ * The library is built by `rt staticlib exports` (target/staticlib/libexports.a, x86-64).
  *
- * Example: 100 calls of 4 ms, with nothing moving.
+ * Example: 500 calls of 4 ms from an axis with a lag of 30 ms, whose acceleration settles at 40 rad/s2 for a moment of 1.
  *
  *     #include "identify.h"
  *     #include <stdio.h>
@@ -16,16 +16,35 @@
  *             at[i] = (uint8_t)(w >> (24 - 8 * i));
  *     }
  *
+ *     static float get(const uint8_t *at)
+ *     {
+ *         uint32_t w = 0;
+ *         float x;
+ *         for (int i = 0; i < 4; i++)
+ *             w = w << 8 | at[i];
+ *         memcpy(&x, &w, 4);
+ *         return x;
+ *     }
+ *
  *     int main(void)
  *     {
- *         static uint8_t config[24], calls[12 * 100], output[36 + 4 * 100];
+ *         static uint8_t config[24], calls[12 * 500], output[36 + 4 * 500], units[12];
  *         put(config, 0.5f);      // amplitude
- *         put(config + 4, 6.0f);  // duration_s
+ *         put(config + 4, 1.9f);  // duration_s
  *         put(config + 8, 0.5f);  // washout_tc_s; the flag after it stays 0: no extension
- *         for (int k = 0; k < 100; k++)
- *             put(calls + 12 * k, 0.004f);  // dt; rate and moment stay 0
+ *         float rate = 0.0f, accel = 0.0f, moment = 0.0f;
+ *         for (int k = 0; k < 500; k++) {
+ *             accel = 0.875f * accel + 0.125f * 40.0f * moment;
+ *             rate += 0.004f * accel;
+ *             put(calls + 12 * k, 0.004f);
+ *             put(calls + 12 * k + 4, rate);
+ *             put(calls + 12 * k + 8, moment);
+ *             moment = k / 25 % 2 ? -0.1f : 0.1f;
+ *         }
  *         uint32_t number = identify_byte_run(config, sizeof config, calls, sizeof calls, output, sizeof output);
- *         printf("answer %u, kind %u\n", number, output[0] >> 6);  // answer 0, kind 0: still running
+ *         printf("answer %u, kind %u\n", number, output[0] >> 6);  // answer 0, kind 1: done
+ *         if (identify_plain_units(output, 36, units, sizeof units) == 0 && units[3] == 1)
+ *             printf("lag %.0f ms, %.0f rad/s2\n", 1000 * get(units + 4), get(units + 8));  // lag 30 ms, 40 rad/s2
  *         return 0;
  *     }
  */
@@ -62,15 +81,37 @@ extern "C" {
  *   7  still running, and elapsed + dt above 4,096 s
  *   8  still running, with 16,777,216 ticks
  *
- * It is re-entrant: it has no global state, takes no memory from a heap and calls nothing outside itself. It takes up to
- * 157,600 bytes of stack. A call within a run takes some nanoseconds, but the one at which a fit falls due up to some
- * milliseconds, all within this function.
+ * It is re-entrant: it has no global state, takes no memory from a heap and calls nothing outside itself but memcpy and
+ * memset. It takes up to 157,700 bytes of stack. A call within a run takes some nanoseconds, but the one at which a fit falls
+ * due up to some milliseconds, all within this function.
  *
  * The caller sees to it that each pointer is good for its length, that the output overlaps neither input, that floats round to
  * nearest (the default mode), and that subnormals are not flushed to zero.
  */
 uint32_t identify_byte_run(const uint8_t *config, size_t config_len, const uint8_t *calls, size_t calls_len, uint8_t *output,
                            size_t output_len);
+
+/* Gives the lag and the acceleration of a report's model. Fields and floats are as above: 32 bits, big-endian, binary32.
+ *
+ * report   36 bytes, as identify_byte_run writes them.
+ * output   12 bytes. The function writes three fields: 1, the lag in s, and the acceleration per unit moment in rad/s2 once the
+ *          lag has settled, both floats, a NaN as 7FC00000; or 0, 0, 0 where the report has neither: its kind is not 1 (done),
+ *          or its pole, minus the second rate weight, is 1 or more, or NaN.
+ *
+ * The lag is 0 for a pole of 0 or below, else -dt_s / log(pole). The acceleration is the sum of the three moment weights over
+ * (1 - max(pole, 0)) * dt_s. Where dt_s is positive and finite, the lag is neither negative nor NaN. No value is turned back: a
+ * divisor that underflows gives an infinity or a NaN.
+ *
+ * Answers 0, or a number, and then no byte is written:
+ *   9  the report is not 36 bytes, or the output not 12
+ *
+ * It is re-entrant: it has no global state, takes no memory from a heap and calls nothing outside itself. It takes up to 100
+ * bytes of stack and some tens of nanoseconds.
+ *
+ * The caller sees to it that each pointer is good for its length, that the output does not overlap the report, that floats
+ * round to nearest (the default mode), and that subnormals are not flushed to zero.
+ */
+uint32_t identify_plain_units(const uint8_t *report, size_t report_len, uint8_t *output, size_t output_len);
 
 #ifdef __cplusplus
 }

@@ -20,8 +20,12 @@ FLIGHT.csv has a header line and the columns dt (s), rate (rad/s, at this tick) 
 limit is 1), in any order; other columns are passed over; nan and inf are allowed. Its first line is the first tick of the
 excitation. The values of the options are defaults of this command; give those that the aircraft flew with.
 
+Of a model, the delay is the time until the axis begins to follow a moment, the lag the time constant with which it then
+follows, and the push its acceleration for a moment of 1 once the lag has settled. The pole is minus the second rate weight;
+with a pole of 1 or more there is neither lag nor push.
+
 Exit status: 0 where a report was printed, however the probe ended; 1 where the library cannot be built or loaded; 2 for bad
-input. The first use builds the library with rt and cc; IDENTIFY_LIBRARY names a ready libbyte_run.a or libidentify.so."""
+input. The first use builds the library with rt and cc; IDENTIFY_LIBRARY names a ready libexports.a or libidentify.so."""
 
 OPTIONS_OF_RULE = {
     1: ("amplitude",),
@@ -124,7 +128,13 @@ def identify_flight(options: argparse.Namespace, config: Config) -> None:
     if options.plot:
         picture.draw(options.plot, log, config, report)
     print_report = words.as_json if options.json else words.text
-    sys.stdout.write(print_report(log, config, report))
+    write(print_report(log, config, report))
+
+
+def write(text: str) -> None:
+    """Writes to standard output; a character that its encoding lacks, such as the ² of rad/s², becomes a question mark."""
+    encoding = sys.stdout.encoding or "utf8"
+    sys.stdout.write(text.encode(encoding, "replace").decode(encoding))
 
 
 def complain(message: str, status: int) -> int:

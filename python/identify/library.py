@@ -17,10 +17,12 @@ from pathlib import Path
 
 ROOT = Path(__file__).resolve().parents[2]
 VARIABLE = "IDENTIFY_LIBRARY"
-BUILD_COMMAND = ("rt", "staticlib", "byte_run")
-ARCHIVE = Path("target/staticlib/libbyte_run.a")
+BUILD_COMMAND = ("rt", "staticlib", "exports")
+ARCHIVE = Path("target/staticlib/libexports.a")
 SHARED = Path("target/identify/libidentify.so")
 UNBUILT_FOLDER = "must-fail"
+FUNCTIONS = {"identify_byte_run": 3, "identify_plain_units": 2}
+"""The exported functions, and how many buffers each takes: a pointer and a length for each."""
 
 
 class LibraryError(RuntimeError):
@@ -29,7 +31,7 @@ class LibraryError(RuntimeError):
 
 @functools.cache
 def load() -> ctypes.CDLL:
-    """The library with the types of its one function set, loaded once a process."""
+    """The library with the types of its functions set, loaded once a process."""
     named = os.environ.get(VARIABLE)
     if not named:
         return open_shared(built(ROOT))
@@ -48,21 +50,22 @@ def open_archive(archive: Path) -> ctypes.CDLL:
 
 
 def open_shared(path: Path) -> ctypes.CDLL:
-    """Loads a shared object and declares `identify_byte_run`."""
+    """Loads a shared object and declares its functions."""
     try:
         library = ctypes.CDLL(str(path))
-        function = library.identify_byte_run
+        for name, buffers in FUNCTIONS.items():
+            function = getattr(library, name)
+            function.argtypes = [ctypes.c_char_p, ctypes.c_size_t] * buffers
+            function.restype = ctypes.c_uint32
     except (OSError, AttributeError) as error:
         raise LibraryError(f"{path}: {error}") from error
-    function.argtypes = [ctypes.c_char_p, ctypes.c_size_t] * 3
-    function.restype = ctypes.c_uint32
     return library
 
 
 def built(root: Path) -> Path:
     """The shared object of the sources under `root`, built where it is missing or older than one of them."""
     if not (root / "crates").is_dir():
-        raise LibraryError(f"no crates/ in {root}: set {VARIABLE} to a ready libbyte_run.a or libidentify.so")
+        raise LibraryError(f"no crates/ in {root}: set {VARIABLE} to a ready libexports.a or libidentify.so")
     shared = root / SHARED
     if not is_current(shared, root):
         build(root, shared)

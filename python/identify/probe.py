@@ -1,4 +1,4 @@
-"""Runs the proved library over a list of calls."""
+"""Runs the proved library: over a list of calls, and over a report."""
 from __future__ import annotations
 
 import ctypes
@@ -7,7 +7,9 @@ from collections.abc import Sequence
 
 from . import library
 from .records import Config, ConfigRefused, Report
-from .wire import CALL_BYTES, OFFSET_BYTES, REPORT_BYTES, pack_calls, pack_config, unpack_report
+from .wire import (
+    CALL_BYTES, OFFSET_BYTES, REPORT_BYTES, UNITS_BYTES, pack_calls, pack_config, unpack_report, unpack_units,
+)
 
 
 def run(config: Config, dt: Sequence[float], rate: Sequence[float], moment: Sequence[float]) -> Report:
@@ -21,7 +23,8 @@ def run(config: Config, dt: Sequence[float], rate: Sequence[float], moment: Sequ
     length, and LibraryError where the library cannot be built or loaded. A call that breaks one of the rules 6 to 8 is
     listed in the report's `refusals`, and the run goes on.
     """
-    return unpack_report(run_bytes(pack_config(config), pack_calls(dt, rate, moment)))
+    output = run_bytes(pack_config(config), pack_calls(dt, rate, moment))
+    return unpack_report(output, plain_units(output[:REPORT_BYTES]))
 
 
 def run_bytes(config: bytes, calls: bytes) -> bytes:
@@ -36,6 +39,20 @@ def run_bytes(config: bytes, calls: bytes) -> bytes:
     if answer != 0:
         raise ConfigRefused(answer)
     return output.raw
+
+
+def plain_units(report: bytes) -> tuple[float, float] | None:
+    """Runs `identify_plain_units` over a report's 36 bytes: the lag in s and the push in rad/s² per unit moment.
+
+    None where the report has neither: its probe is not done, or the model's pole is 1 or more, or NaN. Raises ValueError
+    where the report is not 36 bytes.
+    """
+    function = library.load().identify_plain_units
+    check_float_mode()
+    output = ctypes.create_string_buffer(UNITS_BYTES)
+    if function(report, len(report), output, len(output)) != 0:
+        raise ValueError(f"a report is {REPORT_BYTES} bytes, not {len(report)}")
+    return unpack_units(output.raw)
 
 
 def check_float_mode() -> None:

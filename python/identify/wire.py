@@ -11,6 +11,7 @@ from .records import Config, Ending, Extension, Model, Refusal, Report
 
 CALL_BYTES = 12
 REPORT_BYTES = 36
+UNITS_BYTES = 12
 OFFSET_BYTES = 4
 NAN_WORD = 0x7FC00000
 CALL_RULES = (6, 7, 8)
@@ -74,12 +75,12 @@ def has_half(moment_weights: tuple[float, float, float], gain_fits: int) -> bool
     return gain_fits > 0 and first == second and third == 0 and first != 0
 
 
-def unpack_report(output: bytes) -> Report:
-    """The report and the offsets of a finished byte run."""
+def unpack_report(output: bytes, units: tuple[float, float] | None) -> Report:
+    """The report and the offsets of a finished byte run, with the model's lag and push where it has them."""
     fields = split_bits(output[:12])
     floats = struct.unpack(">6f", output[12:REPORT_BYTES])
     ending = Ending(fields["kind"])
-    model = unpack_model(fields, floats) if ending is Ending.DONE else None
+    model = unpack_model(fields, floats, units) if ending is Ending.DONE else None
     offsets, refusals = unpack_offsets(output[REPORT_BYTES:])
     return Report(
         ending=ending,
@@ -97,9 +98,10 @@ def unpack_report(output: bytes) -> Report:
     )
 
 
-def unpack_model(fields: dict[str, int], floats: tuple[float, ...]) -> Model:
+def unpack_model(fields: dict[str, int], floats: tuple[float, ...], units: tuple[float, float] | None) -> Model:
     """The model of a report that is done."""
     moment_weights = (floats[2], floats[3], floats[4])
+    lag_s, accel_radps2 = units or (None, None)
     half = has_half(moment_weights, fields["gain_fits"])
     return Model(
         half_ticks=2 * fields["d"] + int(half),
@@ -107,7 +109,15 @@ def unpack_model(fields: dict[str, int], floats: tuple[float, ...]) -> Model:
         moment_weights=moment_weights,
         dt_s=floats[5],
         integrated=fields["gain_fits"] > 0,
+        lag_s=lag_s,
+        accel_radps2=accel_radps2,
     )
+
+
+def unpack_units(data: bytes) -> tuple[float, float] | None:
+    """Lag and push; None where the model has neither."""
+    known, lag_s, accel_radps2 = struct.unpack(">I2f", data)
+    return (lag_s, accel_radps2) if known else None
 
 
 def unpack_offsets(data: bytes) -> tuple[tuple[float, ...], tuple[Refusal, ...]]:

@@ -55,13 +55,26 @@ def ending_words(log: Log, config: Config, report: Report) -> str:
 
 
 def model_lines(model: Model) -> list[str]:
-    """Delay, weights and tick of a model."""
+    """Delay, lag, push, weights and tick of a model."""
     d = model.whole_ticks
     return [
         row("delay", f"{number(model.delay_ticks)} ticks, {1000 * model.delay_s:.2f} ms"),
+        *units_lines(model),
         row("rate weights", f"{weights(model.rate_weights)}  of y[k-1], y[k-2]"),
         row("moment weights", f"{weights(model.moment_weights)}  of u[k-{d}], u[k-{d + 1}], u[k-{d + 2}]"),
         row("dt", f"{model.dt_s:.6g} s"),
+    ]
+
+
+def units_lines(model: Model) -> list[str]:
+    """Lag and push of a model, or why it has neither."""
+    if model.lag_s is None:
+        pole = -model.rate_weights[1]
+        return [row("lag, push", f"none: a model settles only with a pole below 1, and here it is {pole:.7g}")]
+    no_lag = ", the fit sees no lag" if model.lag_s == 0 else ""
+    return [
+        row("lag", f"{1000 * model.lag_s:.2f} ms{no_lag}"),
+        row("push", f"{model.accel_radps2:.2f} rad/s² per unit moment"),
     ]
 
 
@@ -200,6 +213,8 @@ def model_dict(model: Model) -> dict[str, Any]:
         "delay_ticks": model.delay_ticks,
         "delay_half_ticks": model.half_ticks,
         "delay_ms": 1000 * model.delay_s,
+        "lag_s": model.lag_s,
+        "accel_radps2": model.accel_radps2,
         "rate_weights": list(model.rate_weights),
         "moment_weights": list(model.moment_weights),
         "dt_s": model.dt_s,

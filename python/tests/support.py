@@ -13,11 +13,14 @@ sys.path.insert(0, str(ROOT / "python"))
 import identify
 
 M1_CONFIG = identify.Config(1.0, 1.0, 0.5, None)
-RATE_WEIGHTS = (1.85, -0.85)
+POLE = 0.85
+RATE_WEIGHTS = (1 + POLE, -POLE)
 MOMENT_WEIGHTS = (0.02, 0.01, 0.015)
 
 
-def made_flight(delay: int, ticks: int = 1600, dt: float = 0.004) -> tuple[list[float], list[float], list[float]]:
+def made_flight(
+    delay: int, ticks: int = 1600, dt: float = 0.004, pole: float = POLE
+) -> tuple[list[float], list[float], list[float]]:
     """An axis that follows the model's equation exactly, under a moment drawn anew at each tick.
 
     All three moment weights differ from zero, so no other delay explains the flight.
@@ -26,7 +29,7 @@ def made_flight(delay: int, ticks: int = 1600, dt: float = 0.004) -> tuple[list[
     commands = [draw.uniform(-0.5, 0.5) for _ in range(ticks)]
     rates: list[float] = []
     for k in range(ticks):
-        terms = [weight * at(rates, k - 1 - back) for back, weight in enumerate(RATE_WEIGHTS)]
+        terms = [(1 + pole) * at(rates, k - 1), -pole * at(rates, k - 2)]
         terms += [weight * at(commands, k - delay - back) for back, weight in enumerate(MOMENT_WEIGHTS)]
         rates.append(sum(terms))
     return [dt] * ticks, rates, [0.0] + commands[:-1]
@@ -35,6 +38,11 @@ def made_flight(delay: int, ticks: int = 1600, dt: float = 0.004) -> tuple[list[
 def at(values: list[float], tick: int) -> float:
     """The value at a tick; 0 before the start."""
     return values[tick] if tick >= 0 else 0.0
+
+
+def log_text(dt: list[float], rate: list[float], moment: list[float]) -> str:
+    """A flight as a log."""
+    return "dt,rate,moment\n" + "".join(",".join(map(repr, call)) + "\n" for call in zip(dt, rate, moment))
 
 
 def command(*words: str, given: str = "") -> subprocess.CompletedProcess[str]:

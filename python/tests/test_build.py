@@ -18,8 +18,10 @@ FAKE_RT = """#!/bin/sh
 echo "rt: report proved"
 echo "a note"
 mkdir -p target/staticlib
-echo "unsigned identify_byte_run(void) { return 0; }" > target/stub.c
-cc -c -fPIC target/stub.c -o target/stub.o && ar rcs target/staticlib/libbyte_run.a target/stub.o
+for name in ${FAKE_RT_FUNCTIONS:-identify_byte_run identify_plain_units}; do
+    echo "unsigned $name(void) { return 0; }"
+done > target/stub.c
+cc -c -fPIC target/stub.c -o target/stub.o && ar rcs target/staticlib/libexports.a target/stub.o
 exit ${FAKE_RT_STATUS:-0}
 """
 
@@ -56,10 +58,11 @@ class FirstUse(unittest.TestCase):
 
     def test_builds_once_and_says_so(self):
         said = self.built()
-        self.assertIn("identify: building the proved library (rt staticlib byte_run, then cc)", said)
+        self.assertIn("identify: building the proved library (rt staticlib exports, then cc)", said)
         self.assertIn("rt: report proved", said)
         self.assertNotIn("a note", said)
-        self.assertTrue(library.open_shared(self.shared).identify_byte_run)
+        opened = library.open_shared(self.shared)
+        self.assertTrue(opened.identify_byte_run and opened.identify_plain_units)
         self.assertEqual(self.built(), "")
 
     def test_builds_again_after_a_change(self):
@@ -70,8 +73,13 @@ class FirstUse(unittest.TestCase):
         self.assertIn("building", self.built())
 
     def test_failed_build(self):
-        with self.assertRaisesRegex(identify.LibraryError, "`rt staticlib byte_run` failed with status 3"):
+        with self.assertRaisesRegex(identify.LibraryError, "`rt staticlib exports` failed with status 3"):
             self.built(FAKE_RT_STATUS="3")
+
+    def test_library_that_lacks_a_function(self):
+        self.built(FAKE_RT_FUNCTIONS="identify_byte_run")
+        with self.assertRaisesRegex(identify.LibraryError, "identify_plain_units"):
+            library.open_shared(self.shared)
 
     def test_without_rt(self):
         with self.assertRaisesRegex(identify.LibraryError, "rt is not on the PATH"):

@@ -3,16 +3,19 @@ import contextlib
 import importlib.util
 import io
 import json
+import os
+import re
 import tempfile
 import unittest
 from pathlib import Path
 from unittest import mock
 
-from support import DEMO, command, identify
+from support import DEMO, ROOT, command, identify, log_text, made_flight
 
 from identify import cli
 
 HEADER = "dt,rate,moment\n"
+UNSETTLED = log_text(*made_flight(3, ticks=300, pole=1.01))
 M1_OPTIONS = ("--amplitude", "1", "--duration", "1", "--washout", "0.5", "--no-extension")
 HAS_MATPLOTLIB = importlib.util.find_spec("matplotlib") is not None
 
@@ -29,6 +32,27 @@ class Good(unittest.TestCase):
             "2100 in the log, none turned back, 100 after the end, unused",
         ):
             self.assertIn(words, result.stdout)
+
+    def test_lag_and_push_in_words(self):
+        result = command("-", given=log_text(*made_flight(3)))
+        self.assertRegex(result.stdout, r"\n  lag             24\.6\d ms\n  push            7[45]\.\d\d rad/s² per unit moment\n")
+
+    def test_terminal_without_the_raised_two(self):
+        with mock.patch.dict(os.environ, {"PYTHONIOENCODING": "ascii"}):
+            result = command(str(DEMO / "clean.csv"))
+        self.assertEqual((result.returncode, result.stderr), (0, ""))
+        self.assertIn("push            40.00 rad/s? per unit moment\n", result.stdout)
+
+    def test_no_lag_in_words(self):
+        result = command("-", given=log_text(*made_flight(3, pole=-0.2)))
+        self.assertRegex(result.stdout, r"\n  lag             0\.00 ms, the fit sees no lag\n  push            11\.2\d rad/s² ")
+
+    def test_neither_lag_nor_push_in_words(self):
+        result = command("-", "--duration", "1", given=UNSETTLED)
+        self.assertEqual((result.returncode, result.stderr), (0, ""))
+        why = r"none: a model settles only with a pole below 1, and here it is 1\.0\d*\n"
+        self.assertRegex(result.stdout, rf"\n  lag, push       {why}")
+        self.assertNotIn("rad/s²", result.stdout)
 
     def test_whole_delay_in_words(self):
         result = command(str(DEMO / "clean.csv"))
@@ -83,6 +107,27 @@ class Good(unittest.TestCase):
         self.assertIn("elapsed time + dt above 4,096 s: 1 turned back (line 10)", result.stdout)
 
 
+class Readme(unittest.TestCase):
+    """The README shows what comes out."""
+
+    def setUp(self):
+        self.text = (ROOT / "README.md").read_text(encoding="utf8")
+
+    def test_the_printed_report(self):
+        printed = command(str(DEMO / "noisy.csv")).stdout.replace(f"{DEMO}/", "demo/")
+        self.assertIn(f"```\n{printed}```\n", self.text)
+
+    def test_the_notebook(self):
+        lines = re.search(r"```python\n(.*?)```", self.text, re.DOTALL).group(1).splitlines()
+        names = {}
+        with contextlib.chdir(ROOT):
+            exec("\n".join(lines), names)
+        shown = [line.split("#") for line in lines if "#" in line]
+        self.assertEqual(len(shown), 3)
+        for expression, value in shown:
+            self.assertEqual(repr(eval(expression, names)), value.strip())
+
+
 class Json(unittest.TestCase):
     """The report for programs."""
 
@@ -94,6 +139,15 @@ class Json(unittest.TestCase):
         self.assertEqual(found["counts"]["gain_fits"], 2604)
         self.assertEqual(found["config"]["extension"], {"amplitude": 1.0, "duration_s": 8.0})
         self.assertEqual(len(bytes.fromhex(found["report_hex"])), 36)
+
+    def test_lag_and_push(self):
+        found = json.loads(command("-", "--json", given=log_text(*made_flight(3))).stdout)["model"]
+        self.assertAlmostEqual(found["lag_s"], 0.02461, delta=1e-4)
+        self.assertAlmostEqual(found["accel_radps2"], 75, delta=0.5)
+
+    def test_neither_lag_nor_push(self):
+        found = json.loads(command("-", "--json", "--duration", "1", given=UNSETTLED).stdout)
+        self.assertEqual((found["ending"], found["model"]["lag_s"], found["model"]["accel_radps2"]), ("done", None, None))
 
     def test_refused_calls(self):
         found = json.loads(command("-", *M1_OPTIONS, "--json", given=HEADER + "0.25,0,0\n0,0,0\n" + "0.25,0,0\n" * 3).stdout)

@@ -45,12 +45,13 @@ class Bytes(unittest.TestCase):
         for value, width in zip((1, 3, 0, 2000, 2001, 7, 33, 1960, 2604, 0), widths):
             head = head << width | value
         floats = struct.pack(">6f", 1.875, -0.875, 0.5, 0.5, 0.0, 0.25)
-        report = wire.unpack_report(head.to_bytes(12, "big") + floats)
+        report = wire.unpack_report(head.to_bytes(12, "big") + floats, (0.5, 32.0))
         counts = (report.ticks, report.stored, report.held, report.warm, report.rows, report.gain_fits)
         self.assertEqual(counts, (2000, 2001, 7, 33, 1960, 2604))
         self.assertEqual(report.model.delay_ticks, 3.5)
         self.assertEqual(report.model.delay_s, 0.875)
         self.assertEqual(report.model.rate_weights, (1.875, -0.875))
+        self.assertEqual((report.model.lag_s, report.model.accel_radps2), (0.5, 32.0))
 
 
 class Refusals(unittest.TestCase):
