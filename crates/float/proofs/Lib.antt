@@ -7,6 +7,7 @@ pub mod Pattern
 pub mod Rounding
 pub mod NarrowFields
 pub mod WholeRoot
+pub mod Signs
 pub mod RootFields
 pub mod ExpSteps
 pub mod RootNear

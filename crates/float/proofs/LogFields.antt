@@ -1,6 +1,6 @@
 -- What the fields of an f32 say of its logarithm.
 use mathlib.Core.Path.{_≡_, refl, sym, ap, _∙_, subst}
-use mathlib.Core.Bool.{Bool, true, false, not, cond, true≢false}
+use mathlib.Core.Bool.{Bool, true, false, not, cond}
 use Prim.Native.Nat.{ℕ, zero, suc, _+_, _-_, _*_, _/_, _%_, _^_, _≤_, _<_}
 use native.Mathlib.Nat.{add-comm, lt-irrefl, lt-of-lt-of-le, mul-assoc, mul-comm, mul-one, mul-le-mul-right, mul-lt-mul-of-pos-right, zero-lt-suc, zero-mul}
 use native.Mathlib.Numerals.{add-one}
@@ -20,8 +20,8 @@ use Rattle.float.specs.Log.{logFrom, logSplit, logAt, wideLog, logOf}
 use Rattle.float.proofs.Digits.{size-gt, size-is}
 use Rattle.float.proofs.WholeNumbers.{ratio, minus-plus, pred-minus}
 use Rattle.float.proofs.Rounding.{zerosOf}
-use Rattle.float.proofs.Fields.{subnormal, normal, infinite}
-use Rattle.float.proofs.RootFields.{sign, zero-bits, negative}
+use Rattle.float.proofs.Fields.{subnormal, normal}
+use Rattle.float.proofs.Signs.{at-infinity, nan-below}
 
 -- ---- `logAt` sees only the value
 size-moved : (a t : ℕ) → 0 < a → size (a * 2 ^ t) ≡ size a + t
@@ -124,7 +124,7 @@ unfolding logOf wideLog narrowed
 log-inf = refl
 
 pub log-infinite : (x t : ℕ) → x ≡ 255 → T (not (isNan (ofFields binary32 false x t))) → ofFields binary32 false x t ≡ logOf (ofFields binary32 false x t)
-log-infinite x t e n = let i = infinite binary32 false x t e n in i ∙ sym (ap logOf i ∙ log-inf)
+log-infinite = at-infinity logOf log-inf
 
 -- ---- NaN, the zeros and what is below
 
@@ -140,17 +140,16 @@ pub log-minus-zero : div binary32 (neg (ofBits binary32 0x3f80_0000)) (ofBits bi
 unfolding logOf wideLog narrowed div neg ofBits
 log-minus-zero = refl
 
-log-below : (x : Float) → 2 ^ 31 < toBits binary32 x → sign x ≡ true → logOf x ≡ nan
-unfolding logOf wideLog narrowed sign
-log-below nan h e = refl
-log-below (inf true) h e = refl
-log-below (inf false) h e = absurd (true≢false (sym e))
-log-below (fin false m k) h e = absurd (true≢false (sym e))
-log-below (fin true zero k) h e = absurd (lt-irrefl (2 ^ 31) (subst (λ (b : ℕ). 2 ^ 31 < b) (zero-bits k) h))
-log-below (fin true (suc m) k) h e = refl
+log-minus-inf : logOf (inf true) ≡ nan
+unfolding logOf wideLog narrowed
+log-minus-inf = refl
+
+log-below : (m : ℕ) (e : ℤ) → logOf (fin true (suc m) e) ≡ nan
+unfolding logOf wideLog narrowed
+log-below m e = refl
 
 pub log-negative : (x : Float) → T (fits binary32 x) → 2 ^ 31 < toBits binary32 x → logOf x ≡ nan
-log-negative x f h = log-below x h (negative x f h)
+log-negative = nan-below logOf log-nan log-minus-inf log-below
 
 -- ---- m of n = 64 - zeros digits, as the code has it
 

@@ -21,7 +21,8 @@ use Rattle.float.proofs.Closest.{closest-down, closest-up}
 use Rattle.float.proofs.Digits.{size-gt, lt-or-ge}
 use Rattle.float.proofs.Fields.{own}
 use Rattle.float.proofs.WholeRoot.{Root, isqrt-root, twice, near-up, near-down, root-ge, scaled, kOf, nOf}
-use Rattle.float.proofs.RootFields.{rooted-odd, sign, sign-fields}
+use Rattle.float.proofs.RootFields.{rooted-odd}
+use Rattle.float.proofs.Signs.{sign, sign-fields}
 
 -- ---- squares
 square-lt : (x y : ℕ) → x * x < y * y → x < y

@@ -11,7 +11,7 @@ use lib.Ieee.Bits.{ofBits-toBits, toBits-lt}
 use Rattle.float.specs.Log.{logOf}
 use Rattle.float.proofs.Digits.{lt-or-ge}
 use Rattle.float.proofs.Nan.{is-nan, no-nan}
-use Rattle.float.proofs.RootFields.{plain}
+use Rattle.float.proofs.Signs.{plain}
 use Rattle.float.proofs.LogFields.{log-nan, log-zero, log-minus-zero, log-negative, log-infinite, log-subnormal, log-normal}
 use Rattle.float.proofs.log.Statement.{statement}
 use Rattle.float.proofs.log.Tie as tie

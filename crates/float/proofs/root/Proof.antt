@@ -10,7 +10,8 @@ use lib.Ieee.Bits.{ofBits-toBits}
 use lib.Ieee.Positive.{positive}
 use Rattle.float.specs.Root.{rooted, NearestRoot}
 use Rattle.float.proofs.Nan.{is-nan, no-nan}
-use Rattle.float.proofs.RootFields.{plain, root-subnormal, root-normal, root-infinite, rooted-nan, minus-zero, below-zero}
+use Rattle.float.proofs.Signs.{plain}
+use Rattle.float.proofs.RootFields.{root-subnormal, root-normal, root-infinite, rooted-nan, minus-zero, below-zero}
 use Rattle.float.proofs.RootNear.{nearest-root}
 use Rattle.float.proofs.root.Statement.{statement}
 use Rattle.float.proofs.root.Tie as tie
