@@ -14,12 +14,13 @@ def floats(*values): return struct.pack(">%df" % len(values), *values)
 NAN = word(0x7fc00000)
 RUNNING, UNEXCITED = 0, 2
 
-# Bits, most significant first: kind 2, d 4, zero 2, ticks 25, stored 12, held 12, warm 12, rows 12, gain fits 12, zero 3;
-# then two rate weights, three moment weights and dt_s, which is elapsed while running. No report here has a model.
+# Bits, most significant first: kind 2, d 4, half tick 1 (02, two), zero 1, ticks 25, stored 12, held 12, warm 12, rows 12,
+# gain fits 12, zero 3; then two rate weights, three moment weights and dt_s, which is elapsed while running. No report here
+# has a model.
 def report(kind, ticks, stored, held, warm, rows, dt_s):
     bits = 0
     for value, width in (
-        (kind, 2), (0, 4), (0, 2), (ticks, 25), (stored, 12), (held, 12), (warm, 12), (rows, 12), (0, 12), (0, 3)
+        (kind, 2), (0, 4), (0, 1), (0, 1), (ticks, 25), (stored, 12), (held, 12), (warm, 12), (rows, 12), (0, 12), (0, 3)
     ):
         bits = bits << width | value
     return bits.to_bytes(12, "big") + floats(0, 0, 0, 0, 0, dt_s)

@@ -43,6 +43,7 @@
  *         }
  *         uint32_t number = identify_byte_run(config, sizeof config, calls, sizeof calls, output, sizeof output);
  *         printf("answer %u, kind %u\n", number, output[0] >> 6);  // answer 0, kind 1: done
+ *         printf("delay %.1f ticks\n", (output[0] >> 2 & 15) + (output[0] >> 1 & 1) / 2.0);  // delay 1.0 ticks: d and half
  *         if (identify_plain_units(output, 36, units, sizeof units) == 0 && units[3] == 1)
  *             printf("lag %.0f ms, %.0f rad/s2\n", 1000 * get(units + 4), get(units + 8));  // lag 30 ms, 40 rad/s2
  *         return 0;
@@ -66,8 +67,10 @@ extern "C" {
  *          the setpoint, or 7FC00000 + N for a call that rule N turned back. A NaN offset is 7FC00000. Later bytes are untouched.
  *
  * Report, most significant bit first: kind 2 (0 running, 1 done, 2 unexcited, 3 saturated), d 4 (whole ticks of delay, 0 unless
- * done), zero 2, ticks 25, stored 12, held 12, warm 12, rows 12, gain fits 12, zero 3; then six floats: two rate weights, three
- * moment weights, dt_s (the elapsed seconds while it runs).
+ * done), half 1 (1 where the delay is half a tick longer than d, 0 for all else), zero 1, ticks 25, stored 12, held 12, warm 12,
+ * rows 12, gain fits 12, zero 3; then six floats: two rate weights, three moment weights, dt_s (the elapsed seconds while it
+ * runs). The delay of a done probe is d + half / 2 ticks, 1 to 10.5; in half ticks 2 * (output[0] >> 2 & 15) + (output[0] >> 1 & 1).
+ * The weights do not tell it: those of a gain of 0 are alike for a whole delay and for a half one.
  *
  * Answers 0, or a number, and then no byte is written:
  *   1  amplitude zero or not finite

@@ -17,8 +17,8 @@ NAN_WORD = 0x7FC00000
 CALL_RULES = (6, 7, 8)
 
 REPORT_BITS = (
-    ("kind", 2), ("d", 4), ("zero", 2), ("ticks", 25), ("stored", 12), ("held", 12), ("warm", 12), ("rows", 12),
-    ("gain_fits", 12), ("end", 3),
+    ("kind", 2), ("d", 4), ("half", 1), ("zero", 1), ("ticks", 25), ("stored", 12), ("held", 12), ("warm", 12),
+    ("rows", 12), ("gain_fits", 12), ("end", 3),
 )
 """The first 12 bytes of the report: names and widths, most significant bit first."""
 
@@ -64,17 +64,6 @@ def split_bits(head: bytes) -> dict[str, int]:
     return fields
 
 
-def has_half(moment_weights: tuple[float, float, float], gain_fits: int) -> bool:
-    """Whether the model's delay has a half tick.
-
-    The report's d is the whole part. The fit of a noisy window puts its gain on one moment weight where the delay is
-    whole, and in equal shares on the first two where it has a half. Where that gain is zero, or so small that both
-    shares come out as zero, the two cannot be told apart from the weights; this takes the delay as whole then.
-    """
-    first, second, third = moment_weights
-    return gain_fits > 0 and first == second and third == 0 and first != 0
-
-
 def unpack_report(output: bytes, units: tuple[float, float] | None) -> Report:
     """The report and the offsets of a finished byte run, with the model's lag and push where it has them."""
     fields = split_bits(output[:12])
@@ -100,13 +89,11 @@ def unpack_report(output: bytes, units: tuple[float, float] | None) -> Report:
 
 def unpack_model(fields: dict[str, int], floats: tuple[float, ...], units: tuple[float, float] | None) -> Model:
     """The model of a report that is done."""
-    moment_weights = (floats[2], floats[3], floats[4])
     lag_s, accel_radps2 = units or (None, None)
-    half = has_half(moment_weights, fields["gain_fits"])
     return Model(
-        half_ticks=2 * fields["d"] + int(half),
+        half_ticks=2 * fields["d"] + fields["half"],
         rate_weights=(floats[0], floats[1]),
-        moment_weights=moment_weights,
+        moment_weights=(floats[2], floats[3], floats[4]),
         dt_s=floats[5],
         integrated=fields["gain_fits"] > 0,
         lag_s=lag_s,

@@ -35,6 +35,22 @@ def made_flight(
     return [dt] * ticks, rates, [0.0] + commands[:-1]
 
 
+def gainless_flight(seen: int, ticks: int = 40, dt: float = 56.0) -> tuple[identify.Config, list[float], list[float], list[float]]:
+    """A configuration and a noisy flight whose fitted gain is 0: one moment, at tick `seen`, in ticks so long that nothing
+    is carried on from one to the next, and a rate that stands still wherever a delay could put that moment.
+
+    The first delay that meets the moment within the fit, which begins at tick 11, wins.
+    """
+    draw = random.Random(seen)
+    rates: list[float] = []
+    for tick in range(ticks):
+        noise = draw.randint(-32, 32) / 16
+        rates.append(rates[-1] if max(seen, 11) <= tick <= seen + 10 else noise)
+    rates[-1] = rates[10]
+    moments = [1.0 if tick == seen else 0.0 for tick in range(ticks)]
+    return identify.Config(0.5, (ticks - 0.5) * dt, 0.2, None), [dt] * ticks, rates, moments
+
+
 def at(values: list[float], tick: int) -> float:
     """The value at a tick; 0 before the start."""
     return values[tick] if tick >= 0 else 0.0

@@ -1,4 +1,4 @@
-"""The header's example, compiled against the real library and run; and M1 through the same function, from C."""
+"""The header's example, compiled against the real library and run; M1 through the same function, from C; and the demo's delay."""
 import os
 import re
 import subprocess
@@ -6,7 +6,7 @@ import tempfile
 import unittest
 from pathlib import Path
 
-from support import ROOT
+from support import DEMO, ROOT
 
 from identify import library
 
@@ -39,8 +39,8 @@ def example() -> str:
     return "\n".join(line[7:] for line in comment.split("\n")[1:] if re.match(r" \*     ", line) or line == " *")
 
 
-def run(program: str) -> str:
-    """What a C program writes that is linked with the library."""
+def run(program: str, *given: str) -> str:
+    """What a C program writes that is linked with the library: for each text that it reads, or once for none."""
     named = os.environ.get(library.VARIABLE)
     archive = Path(named).resolve() if named else library.built(ROOT)
     with tempfile.TemporaryDirectory() as name:
@@ -48,7 +48,8 @@ def run(program: str) -> str:
         (folder / "program.c").write_text(program, encoding="utf8")
         words = ("cc", "-std=c99", "-Wall", "-Wextra", "-Werror", "-pedantic", "-I", str(HEADER.parent), "program.c", str(archive))
         subprocess.run((*words, f"-Wl,-rpath,{archive.parent}", "-o", "program"), cwd=folder, check=True)
-        return subprocess.run((folder / "program",), capture_output=True, text=True, check=True).stdout
+        runs = [subprocess.run((folder / "program",), input=text, capture_output=True, text=True, check=True) for text in given or ("",)]
+        return "".join(run.stdout for run in runs)
 
 
 class Header(unittest.TestCase):
@@ -57,12 +58,17 @@ class Header(unittest.TestCase):
     def test_the_example_says_what_its_comment_says(self):
         program = example()
         said = re.findall(r"printf\(.*// ([^:\n]+)", program)
-        self.assertEqual(len(said), 2)
+        self.assertEqual(len(said), 3)
         self.assertEqual(run(program).splitlines(), said)
 
     def test_m1(self):
         report = "800000020020000020000000" + "00" * 24
         self.assertEqual(run(M1), f"0 {report}3F0000003E8000003E000000BEE00000")
+
+    def test_the_delay_from_d_and_the_half_tick(self):
+        logs = [(DEMO / f"{name}.csv").read_text() for name in ("noisy", "clean", "saturated")]
+        program = (DEMO / "delay.c").read_text(encoding="utf8")
+        self.assertEqual(run(program, *logs).splitlines(), ["3.5 ticks", "3 ticks", "no delay: kind 3"])
 
 
 if __name__ == "__main__":

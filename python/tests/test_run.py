@@ -4,7 +4,7 @@ import math
 import struct
 import unittest
 
-from support import DEMO, M1_CONFIG, MOMENT_WEIGHTS, RATE_WEIGHTS, identify, made_flight
+from support import DEMO, M1_CONFIG, MOMENT_WEIGHTS, RATE_WEIGHTS, gainless_flight, identify, made_flight
 
 from identify import library, wire
 from identify.records import Config, ConfigRefused, Ending, Extension
@@ -15,6 +15,14 @@ M1_OUTPUT = bytes.fromhex("800000020020000020000000" + "00" * 24 + "3F0000003E80
 def zeros(dt):
     """A run of M1's configuration over calls with these dt and zero readings."""
     return identify.run(M1_CONFIG, dt, [0.0] * len(dt), [0.0] * len(dt))
+
+
+def head(kind, d, half):
+    """The first 12 bytes of a report, with some counts."""
+    bits = 0
+    for value, (_, width) in zip((kind, d, half, 0, 2000, 2001, 7, 33, 1960, 2604, 0), wire.REPORT_BITS, strict=True):
+        bits = bits << width | value
+    return bits.to_bytes(12, "big")
 
 
 class Bytes(unittest.TestCase):
@@ -39,13 +47,8 @@ class Bytes(unittest.TestCase):
         self.assertEqual(wire.pack_floats([1e39, -1e39]).hex(), "7f800000ff800000")
 
     def test_report_fields(self):
-        widths = [width for _, width in wire.REPORT_BITS]
-        self.assertEqual(sum(widths), 96)
-        head = 0
-        for value, width in zip((1, 3, 0, 2000, 2001, 7, 33, 1960, 2604, 0), widths):
-            head = head << width | value
         floats = struct.pack(">6f", 1.875, -0.875, 0.5, 0.5, 0.0, 0.25)
-        report = wire.unpack_report(head.to_bytes(12, "big") + floats, (0.5, 32.0))
+        report = wire.unpack_report(head(1, 3, 1) + floats, (0.5, 32.0))
         counts = (report.ticks, report.stored, report.held, report.warm, report.rows, report.gain_fits)
         self.assertEqual(counts, (2000, 2001, 7, 33, 1960, 2604))
         self.assertEqual(report.model.delay_ticks, 3.5)
@@ -192,19 +195,27 @@ class Held(unittest.TestCase):
 
 
 class Halves(unittest.TestCase):
-    """The half tick, read off the weights."""
+    """The half tick is the report's bit, whatever the weights are."""
 
-    def test_shares(self):
-        self.assertTrue(wire.has_half((0.01, 0.01, 0.0), 2604))
-        self.assertTrue(wire.has_half((-0.01, -0.01, 0.0), 2604))
-        self.assertFalse(wire.has_half((0.01, 0.0, 0.0), 2604))
-        self.assertFalse(wire.has_half((math.inf, math.nan, 0.0), 2604))
+    def test_the_bit_alone_tells(self):
+        for weights in ((0.01, 0.01, 0.0), (0.01, 0.0, 0.0), (0.0, 0.0, 0.0), (math.nan, math.nan, 0.0)):
+            floats = struct.pack(">6f", 1.875, -0.875, *weights, 0.25)
+            for half in (0, 1):
+                with self.subTest(weights=weights, half=half):
+                    model = wire.unpack_report(head(1, 3, half) + floats, None).model
+                    self.assertEqual((model.half_ticks, model.delay_ticks), (6 + half, 3 + half / 2))
 
-    def test_recorded_fit_has_no_half(self):
-        self.assertFalse(wire.has_half((0.01, 0.01, 0.0), 0))
+    def test_a_flight_whose_gain_is_0(self):
+        for tick, delay in [(tick, 11.5 - tick) for tick in range(2, 11)] + [(11, 1.0), (20, 1.0)]:
+            with self.subTest(tick=tick):
+                model = identify.run(*gainless_flight(tick)).model
+                self.assertEqual((model.delay_ticks, model.integrated), (delay, True))
+                self.assertEqual(model.moment_weights, (0.0, 0.0, 0.0))
 
-    def test_zero_gain_is_taken_as_whole(self):
-        self.assertFalse(wire.has_half((0.0, 0.0, 0.0), 2604))
+    def test_the_bit_is_where_01_and_02_put_it(self):
+        log = identify.read_log(DEMO / "noisy.csv")
+        first = identify.run(Config(), log.dt, log.rate, log.moment).raw[0]
+        self.assertEqual(f"{first:08b}", "01" "0011" "1" "0")
 
 
 class Prediction(unittest.TestCase):

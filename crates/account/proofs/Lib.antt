@@ -2,5 +2,6 @@ pub mod Table
 pub mod Follow
 pub mod Counts
 pub mod Sweeps
-pub mod Ends
+pub mod Fits
+pub mod Delays
 pub mod Theorem

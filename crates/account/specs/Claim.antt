@@ -2,8 +2,9 @@
 -- p is the probe that the calls leave, and a the account of the same calls. `proofs/Theorem.antt` proves the claim for every configuration and every list.
 use Prim.Native.Nat.{ℕ, _+_, _-_, _≤_, _<_, min}
 use mathlib.Core.Path.{_≡_}
-use mathlib.Core.Bool.{true}
+use mathlib.Core.Bool.{true, cond}
 use mathlib.Core.List.{List, _++_, map}
+use lib.Dec.{leb}
 use lib.ListN.{length}
 use lib.Ieee.{Float, binary32, add}
 use Rattle.float.specs.Values.{zero32}
@@ -12,13 +13,16 @@ use Rattle.sweep.specs.Sweep.{passEdges, lastEdge, While}
 use Rattle.window.specs.Samples.{capacity}
 use Rattle.window.specs.Walk.{many, isHeld, isWarm, isRow}
 use Rattle.window.specs.Runs.{heldOf, rowsOf, warmOf, beyond}
+use Rattle.delay.specs.declared.Delay.{Delay}
 use Rattle.delay.specs.declared.RateModel.{RateModel}
 use Rattle.delay.specs.declared.Position.{Position}
-use Rattle.delay.specs.declared.Position.the-variants.{At}
-use Rattle.delay.specs.HalfTicks.{ofRecorded, ofIntegrated}
+use Rattle.delay.specs.declared.Position.the-variants.{Nowhere, At}
+use Rattle.delay.specs.HalfTicks.{ofRecorded, ofIntegrated, noDelay}
 use Rattle.delay.specs.Tie.{delayToFit}
 use Rattle.rows.specs.Rows.{regressors, sumsBy, sumTicks, windowSums, noSums}
-use Rattle.recorded.specs.Classify.{tieShare, solvedAt}
+use Rattle.recorded.specs.declared.Classified.{Classified}
+use Rattle.recorded.specs.declared.Classified.the-variants as class
+use Rattle.recorded.specs.Classify.{tieShare, solvedAt, classify}
 use Rattle.recorded.specs.Classify as recorded
 use Rattle.lags.specs.Lags.{lagged}
 use Rattle.gain.specs.Gain.{firstTick, stepCount, wholeTicksOf, isHalf, blend, regressor}
@@ -27,7 +31,7 @@ use Rattle.integrated.specs.Integrated.{windowFit, meanDt}
 use Rattle.integrated.specs.Integrated as integrated
 use Rattle.account.specs.declared.IdentifyConfig.{IdentifyConfig}
 use Rattle.account.specs.declared.IdentifyStatus.the-variants.{Done}
-use Rattle.account.specs.Probe.{Call, Probe, clock, stands, fresh, replies, number}
+use Rattle.account.specs.Probe.{Call, Probe, clock, delayOf, stands, fresh, replies, number}
 use Rattle.account.specs.Account.{Account, opened, account, turned, turnedBack, accepted, time, ratesOf, momentsOf, marksOf, runsOf}
 
 -- the position that the tie rule gives for the account's entries, in the recorded fit and in the integrated one
@@ -44,6 +48,22 @@ integratedPosition a =
 pub data Delayed (a : Account) (m : RateModel) : Type 0 where
   byRecorded : (p : ℕ) → recordedPosition a ≡ At p → m .delay ≡ ofRecorded p → Delayed a m
   byIntegrated : (p : ℕ) → integratedPosition a ≡ At p → m .delay ≡ ofIntegrated p → Delayed a m
+
+-- the delay at the position that won, if one did
+unfoldable pub delayAt : (ℕ → Delay) → Position → Delay
+delayAt from Nowhere = noDelay
+delayAt from (At p) = from p
+
+-- by the class of the account's window: an abort has none, nor has an integrated fit with "stored <= 12"
+unfoldable pub delayBy : Classified → Account → Delay
+delayBy (class.Recorded m) a = delayAt ofRecorded (recordedPosition a)
+delayBy class.Integrated a = cond (leb (length (ratesOf a)) (firstTick + 1)) noDelay (delayAt ofIntegrated (integratedPosition a))
+delayBy class.Unexcited a = noDelay
+delayBy class.Saturated a = noDelay
+
+-- the account's delay: none while it runs
+unfoldable pub accountDelay : Account → Delay
+accountDelay a = cond (a .running) noDelay (delayBy (classify (ratesOf a) (momentsOf a) (marksOf a) (a .duration)) a)
 
 pub record Accounted (c : IdentifyConfig) (calls : List Call) (p : Probe) (a : Account) : Type 0 where
   -- "the calls that answered a number are those the account turned back", with the same numbers
@@ -82,6 +102,9 @@ pub record Accounted (c : IdentifyConfig) (calls : List Call) (p : Probe) (a : A
       (lagged pole (at (momentsOf a)) (firstTick + i - wholeTicksOf s))
   -- "The delay .. is kept in a done probe"
   pub delay : (m : RateModel) → p .standing .status ≡ Done m → Delayed a m
+  -- 02, two, "1 for a half delay and 0 for all else": the delay that a report tells, its half tick too, is the account's, ten ticks and a half at most
+  pub half-ticks : delayOf (p .standing .status) ≡ accountDelay a
+  pub in-range : accountDelay a .«half_ticks» ≤ 21
   -- the sweep's last edge is not reached, and its edges at the next accepted call are those of 01's loop
   pub inside : p .sweep .edge < lastEdge
   pub edges : (x : Call) → a .running ≡ true → turned a x ≡ 0

@@ -8,6 +8,8 @@ use Rattle.float.specs.Values.{zero32}
 use Rattle.sweep.specs.declared.SquareSweep.{SquareSweep}
 use Rattle.sweep.specs.Sweep.{started, nextSweep, withAmplitude}
 use Rattle.window.specs.Samples.{Samples, noSamples, store}
+use Rattle.delay.specs.declared.Delay.{Delay}
+use Rattle.delay.specs.HalfTicks.{noDelay}
 use Rattle.recorded.specs.declared.Classified.{Classified}
 use Rattle.recorded.specs.declared.Classified.the-variants.{Recorded, Integrated, Unexcited, Saturated}
 use Rattle.recorded.specs.Classify.{classify}
@@ -57,6 +59,13 @@ clock (status.Running e) = some e
 clock (status.Done m) = none
 clock status.Unexcited = none
 clock status.Saturated = none
+
+-- the delay that is kept: "0 unless done"
+unfoldable pub delayOf : IdentifyStatus → Delay
+delayOf (status.Running e) = noDelay
+delayOf (status.Done m) = m .delay
+delayOf status.Unexcited = noDelay
+delayOf status.Saturated = noDelay
 
 -- a probe just made: "at edge 0, high"
 unfoldable pub fresh : IdentifyConfig → Probe

@@ -7,10 +7,10 @@ use lib.ListN.{replicate, length}
 use Rattle.byte_config.specs.ByteConfig.{configOf, extensionOf}
 use Rattle.byte_run.specs.ByteRun.{byteRun, runIf, ran, onto, sized, written, replyWord, callsOf, callsTo, callAt}
 use Rattle.wire.specs.Words.{floatAt, wordAt, wordBytes, bytesOf, Ran}
-use Rattle.report.specs.Report.{reportBytes, packed, fieldsOf, floatsOf, delayOf, kindOf}
+use Rattle.report.specs.Report.{reportBytes, packed, fieldsOf, floatsOf, kindOf}
 use Rattle.probe_report.specs.ProbeReport.{ofAccount}
 use Rattle.account.specs.Account.{opened, entry, counted, judged, ended, accept, time, turned, continue, next}
-use Rattle.account.specs.Probe.{clock, fresh, finished, stands, takes, extend, close, tick, answer, step, replies}
+use Rattle.account.specs.Probe.{clock, delayOf, fresh, finished, stands, takes, extend, close, tick, answer, step, replies}
 use Rattle.account.specs.Rules.{positive, nonZero, tooLong, brokenExtension, broken, overrun, refusal}
 use Rattle.recorded.specs.Classify.{effectOf, entryOf, modelOf, fitAt, fitOf, entries, solvedAt, rowsDt, fitRecorded, classOf, classify}
 use Rattle.rows.specs.Rows.{target, regressors, product, projection, each, sumsBy, noSums, sumRows, windowSums}

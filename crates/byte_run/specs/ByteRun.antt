@@ -1,5 +1,6 @@
 -- The byte run: 01, "The byte run". "All fields 32-bit, big-endian."
 use Prim.Native.Nat.{ℕ, zero, suc, _+_, _*_, _/_, _%_}
+use mathlib.Core.Path.{_≡_}
 use mathlib.Core.Bool.{Bool, true, false, _&&_}
 use mathlib.Core.List.{List, [], _∷_, _++_, map}
 use lib.Dec.{leb, eqb}
@@ -8,9 +9,10 @@ use Rattle.account.specs.declared.IdentifyConfig.{IdentifyConfig}
 use Rattle.account.specs.Rules.{broken}
 use Rattle.account.specs.Probe.{Call, Reply, offset, refused, fresh, replies}
 use Rattle.account.specs.Account.{opened, account}
+use Rattle.account.specs.Claim.{accountDelay}
 use Rattle.wire.specs.Words.{floatAt, wordBytes, wordOf, Ran}
 use Rattle.byte_config.specs.ByteConfig.{configOf}
-use Rattle.report.specs.Report.{reportBytes}
+use Rattle.report.specs.Report.{reportBytes, Tells}
 use Rattle.probe_report.specs.ProbeReport.{ofAccount}
 
 -- "Call: dt, rate, moment": the call at byte i
@@ -56,3 +58,7 @@ runIf true config calls output = ran (broken (configOf config)) (configOf config
 -- "it returns 0, or the number of 1 to 5 or 9"
 unfoldable pub byteRun : List ℕ → List ℕ → List ℕ → Ran
 byteRun config calls output = runIf (sized config calls output) config calls output
+
+-- a run that answers 0 tells the account's delay: d its whole ticks, the bit after d its half tick
+abbrev pub TellsDelay : (config calls : List ℕ) → ℕ → List ℕ → Type 0
+TellsDelay config calls result output = result ≡ 0 → Tells output (accountDelay (account (opened (configOf config)) (callsOf calls)))

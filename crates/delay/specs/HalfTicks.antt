@@ -9,6 +9,10 @@ ofRecorded p = record { «half_ticks» = 2 * p }
 abbrev pub ofIntegrated : ℕ → Delay
 ofIntegrated p = record { «half_ticks» = p + 1 }
 
+-- of what has no delay
+abbrev pub noDelay : Delay
+noDelay = record { «half_ticks» = 0 }
+
 -- "the reported d is its whole ticks", and the half tick that is left: 1 or 0
 abbrev pub wholeTicks : Delay → ℕ
 wholeTicks d = d .«half_ticks» / 2

@@ -1,7 +1,7 @@
--- A report's bytes: 36 of them, nine words one after another.
-use Prim.Native.Nat.{ℕ, _/_, _%_, _^_, _≤_, _<_}
+-- A report's bytes: 36 of them, nine words one after another, the delay in the first.
+use Prim.Native.Nat.{ℕ, _+_, _*_, _/_, _%_, _^_, _≤_, _<_}
 use mathlib.Core.Path.{_≡_, refl}
-use mathlib.Core.List.{List, map}
+use mathlib.Core.List.{List, _++_, map}
 use native.Mathlib.Omega.{arith}
 use lib.Dec.{lit<}
 use lib.ListN.{length, length-append, length-map}
@@ -11,7 +11,9 @@ use Rattle.wire.proofs.Written.{within, written-next, three-written}
 use Rattle.account.specs.declared.IdentifyStatus.{IdentifyStatus}
 use Rattle.account.specs.declared.IdentifyStatus.the-variants.{Running, Done, Unexcited, Saturated}
 use Rattle.report.specs.declared.Report.{Report}
-use Rattle.report.specs.Report.{kindOf, floatsOf, fieldsOf, packed, reportBytes}
+use Rattle.account.specs.Probe.{delayOf}
+use Rattle.delay.specs.HalfTicks.{wholeTicks, halfTick}
+use Rattle.report.specs.Report.{kindOf, floatsOf, fieldsOf, packed, reportBytes, dRead, halfRead, Tells}
 
 pub kind-small : (s : IdentifyStatus) → kindOf s < 4
 unfolding kindOf
@@ -44,3 +46,29 @@ report-written r l h =
     let e : length fields ≡ 12 = length-bytes 12 (packed 0 (fieldsOf r)) in
     rw (within 0 (reportBytes r) l (rw (length-report r) h))
     (rw e at (written-next 0 fields (wordBytes (map wordOf (floatsOf (r .status)))) l (rw e (omega arith))))
+
+-- ---- the first word
+pub first-bits : (r : Report) → packed 0 (fieldsOf r) / 2 ^ 64
+    ≡ kindOf (r .status) * 2 ^ 30 + wholeTicks (delayOf (r .status)) % 16 * 2 ^ 26 + halfTick (delayOf (r .status)) * 2 ^ 25 + r .ticks % 2 ^ 25 / 2
+unfolding packed fieldsOf
+first-bits r = omega (arith, kind-small (r .status))
+
+-- ---- the delay in its first byte
+first-byte : (r : Report) → packed 0 (fieldsOf r) / 256 ^ 11 % 256 ≡ kindOf (r .status) * 64 + wholeTicks (delayOf (r .status)) % 16 * 4 + halfTick (delayOf (r .status)) * 2
+first-byte r = omega (arith, kind-small (r .status), first-bits r)
+
+d-found : (k d h : ℕ) → d < 16 → h < 2 → (k * 64 + d * 4 + h * 2) / 4 % 16 ≡ d
+d-found k d h x y = omega arith
+
+half-found : (k d h : ℕ) → h < 2 → (k * 64 + d * 4 + h * 2) / 2 % 2 ≡ h
+half-found k d h y = omega arith
+
+-- a report tells the delay that its status keeps, whatever follows it
+pub delay-told : (r : Report) (more : List ℕ) → wholeTicks (delayOf (r .status)) < 16 → Tells (reportBytes r ++ more) (delayOf (r .status))
+unfolding dRead halfRead reportBytes bytesOf
+delay-told r more h =
+    let k = kindOf (r .status) in
+    let d = wholeTicks (delayOf (r .status)) in
+    let t = halfTick (delayOf (r .status)) in
+    let cut : d % 16 ≡ d = omega arith in
+    (rw (first-byte r, cut) (d-found k d t h (omega arith)), rw (first-byte r) (half-found k (d % 16) t (omega arith)))

@@ -1,12 +1,16 @@
 -- The report's 36 bytes: 01, "The report".
-use Prim.Native.Nat.{ℕ, _+_, _*_, _%_, _^_}
+use Prim.Native.Nat.{ℕ, _+_, _*_, _/_, _%_, _^_}
+use mathlib.Core.Path.{_≡_}
 use mathlib.Core.List.{List, [], _∷_, _++_, map}
+use lib.ListN.{getD}
 use lib.Ieee.{Float}
 use Rattle.float.specs.Values.{zero32}
 use Rattle.wire.specs.Words.{bytesOf, wordBytes, wordOf}
-use Rattle.delay.specs.HalfTicks.{wholeTicks}
+use Rattle.delay.specs.declared.Delay.{Delay}
+use Rattle.delay.specs.HalfTicks.{wholeTicks, halfTick}
 use Rattle.account.specs.declared.IdentifyStatus.{IdentifyStatus}
 use Rattle.account.specs.declared.IdentifyStatus.the-variants.{Running, Done, Unexcited, Saturated}
+use Rattle.account.specs.Probe.{delayOf}
 use Rattle.report.specs.declared.Report.{Report}
 
 -- "kind 2 (0 running, 1 done, 2 Unexcited, 3 Saturated)"
@@ -15,13 +19,6 @@ kindOf (Running e) = 0
 kindOf (Done m) = 1
 kindOf Unexcited = 2
 kindOf Saturated = 3
-
--- "d 4 (0 unless done)": the delay's whole ticks
-unfoldable pub delayOf : IdentifyStatus → ℕ
-delayOf (Running e) = 0
-delayOf (Done m) = wholeTicks (m .delay)
-delayOf Unexcited = 0
-delayOf Saturated = 0
 
 -- "two rate weights, three moment weights, dt_s (elapsed if running); unused ones 0"
 unfoldable pub floatsOf : IdentifyStatus → List Float
@@ -39,11 +36,13 @@ abbrev pub bits : ℕ → ℕ → Field
 bits w v = record { width = w; value = v }
 
 -- "Bits, most significant first: kind 2, d 4, zero 2, ticks 25, stored 12, held 12, warm 12, rows 12, gain fits 12, zero 3"
+-- 02, two: "The first of the two zero bits after d becomes 1 for a half delay and 0 for all else."
 unfoldable pub fieldsOf : Report → List Field
 fieldsOf r =
     bits 2 (kindOf (r .status)) ∷
-    bits 4 (delayOf (r .status)) ∷
-    bits 2 0 ∷
+    bits 4 (wholeTicks (delayOf (r .status))) ∷
+    bits 1 (halfTick (delayOf (r .status))) ∷
+    bits 1 0 ∷
     bits 25 (r .ticks) ∷
     bits 12 (r .stored) ∷
     bits 12 (r .held) ∷ bits 12 (r .warm) ∷ bits 12 (r .rows) ∷ bits 12 (r .«gain_fits») ∷ bits 3 0 ∷ []
@@ -56,3 +55,14 @@ packed n (f ∷ fs) = packed (n * 2 ^ f .width + f .value % 2 ^ f .width) fs
 -- 12 bytes of fields, "then six 32-bit floats"
 unfoldable pub reportBytes : Report → List ℕ
 reportBytes r = bytesOf 12 (packed 0 (fieldsOf r)) ++ wordBytes (map wordOf (floatsOf (r .status)))
+
+-- what a reader finds in the first byte of a report: d, and the half tick after it
+unfoldable pub dRead : List ℕ → ℕ
+dRead bytes = getD bytes 0 0 / 4 % 16
+
+unfoldable pub halfRead : List ℕ → ℕ
+halfRead bytes = getD bytes 0 0 / 2 % 2
+
+-- both are those of a delay
+abbrev pub Tells : List ℕ → Delay → Type 0
+Tells bytes delay = (dRead bytes ≡ wholeTicks delay) × (halfRead bytes ≡ halfTick delay)

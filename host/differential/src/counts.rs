@@ -13,6 +13,9 @@ pub struct Counts {
     families: BTreeMap<&'static str, BTreeMap<Ending, u64>>,
     half_ticks_recorded: BTreeMap<usize, u64>,
     half_ticks_integrated: BTreeMap<usize, u64>,
+    /// Half ticks that a reader of the moment weights gets wrong: one who takes equal ones for a
+    /// half, and one who asks for an integrated fit and weights that are not 0 too.
+    misread: [u64; 2],
     lags_recorded: BTreeMap<Lag, u64>,
     lags_integrated: BTreeMap<Lag, u64>,
     rounds: BTreeMap<u32, u64>,
@@ -38,6 +41,14 @@ impl Counts {
             };
             *delays.entry(half_ticks).or_default() += 1;
             *lags.entry(Lag::of(answer.units)).or_default() += 1;
+            let [m0, m1, _] = answer.moment_weights.expect("a done probe has weights");
+            let readings = [
+                m0 == m1,
+                m0 == m1 && m0 != 0.0 && answer.ending.integrated(),
+            ];
+            for (count, reading) in self.misread.iter_mut().zip(readings) {
+                *count += u64::from(reading != (half_ticks % 2 == 1));
+            }
         }
         if answer.gain_fits > 0 && answer.half_ticks.is_some() {
             *self
@@ -86,6 +97,11 @@ impl Counts {
         println!("delays seen, in half ticks: lists");
         println!("  recorded   {}", pairs(&self.half_ticks_recorded));
         println!("  integrated {}", pairs(&self.half_ticks_integrated));
+        let [alike, halves] = self.misread;
+        println!("half ticks that the moment weights tell otherwise: lists");
+        println!(
+            "  equal ones taken for a half {alike}, those of an integrated fit and not 0 {halves}"
+        );
         println!("lags of done reports: lists");
         println!("  recorded   {}", pairs(&self.lags_recorded));
         println!("  integrated {}", pairs(&self.lags_integrated));

@@ -77,6 +77,44 @@ fn half_delay_off(config: &[u8], calls: &[u8], output: &mut [u8]) -> u32 {
     result
 }
 
+/// A change to the first byte of the second program's report, from the byte and the three moment
+/// weights.
+fn first_byte(
+    config: &[u8],
+    calls: &[u8],
+    output: &mut [u8],
+    change: fn(u8, [f32; 3]) -> u8,
+) -> u32 {
+    let result = second::byte_run(config, calls, output);
+    if result == 0 {
+        let weight = |place: usize| {
+            f32::from_be_bytes(output[place..place + 4].try_into().expect("four bytes"))
+        };
+        output[0] = change(output[0], [weight(20), weight(24), weight(28)]);
+    }
+    result
+}
+
+/// The half tick worked out from the weights, as where they are two halves of a gain.
+fn half_from_weights(config: &[u8], calls: &[u8], output: &mut [u8]) -> u32 {
+    first_byte(config, calls, output, |byte, [m0, m1, m2]| {
+        let half = byte >> 6 == 1 && m0 == m1 && m0 != 0.0 && m2 == 0.0;
+        byte & 0xfd | u8::from(half) << 1
+    })
+}
+
+/// The half tick at the second of the two bits after d.
+fn half_at_the_second_bit(config: &[u8], calls: &[u8], output: &mut [u8]) -> u32 {
+    first_byte(config, calls, output, |byte, _| byte & 0xfc | byte >> 1 & 1)
+}
+
+/// The half tick set for an abort.
+fn half_of_an_abort(config: &[u8], calls: &[u8], output: &mut [u8]) -> u32 {
+    first_byte(config, calls, output, |byte, _| {
+        byte | u8::from(byte >> 7 == 1) << 1
+    })
+}
+
 /// A faulty subject is found among the lists, and its input made small.
 fn found(byte_run: fn(&[u8], &[u8], &mut [u8]) -> u32) -> Input {
     let subject = Subject { byte_run, ..SECOND };
@@ -103,6 +141,37 @@ fn a_byte_too_many_is_found() {
 fn a_wrong_bit_of_a_model_is_found() {
     let small = found(half_delay_off);
     assert!(small.calls.len() <= 12 * 40, "{} bytes", small.calls.len());
+}
+
+#[test]
+fn a_wrong_half_tick_is_found() {
+    assert_eq!(found(half_of_an_abort).calls.len(), 12);
+    for wrong in [half_from_weights, half_at_the_second_bit] {
+        let small = found(wrong);
+        assert!(small.calls.len() <= 12 * 60, "{} bytes", small.calls.len());
+    }
+}
+
+#[test]
+fn a_gain_of_0_wins_at_half_delays() {
+    let family = lists::FAMILIES
+        .iter()
+        .find(|family| family.name == "gain of 0")
+        .expect("the family");
+    let mut seen = std::collections::BTreeMap::new();
+    for number in 0..400 {
+        let list = lists::of_family(family, 9, number);
+        let mut output = vec![0; list.output_len];
+        assert_eq!(second::byte_run(&list.config, &list.calls, &mut output), 0);
+        let half_ticks = 2 * (output[0] >> 2 & 0xf) + (output[0] >> 1 & 1);
+        if output[0] >> 6 == 1 {
+            assert!(output[20..32].iter().all(|byte| *byte & 0x7f == 0));
+            *seen.entry(half_ticks).or_insert(0) += 1;
+        }
+    }
+    let delays: Vec<u8> = seen.keys().copied().collect();
+    assert_eq!(delays, [2, 3, 5, 7, 9, 11, 13, 15, 17, 19], "{seen:?}");
+    assert!(seen.values().all(|count| *count >= 10), "{seen:?}");
 }
 
 #[test]

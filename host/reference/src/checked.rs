@@ -69,6 +69,8 @@ pub struct Answer {
     pub ending: Ending,
     /// The delay of a done probe in half ticks, 2 to 21.
     pub half_ticks: Option<usize>,
+    /// The three moment weights of a done probe.
+    pub moment_weights: Option<[f32; 3]>,
     /// The plain units of a done probe, where its model has them.
     pub units: Option<PlainUnits>,
     /// The gain fits that an ended probe made.
@@ -89,6 +91,7 @@ pub fn checked_run(config: &[u8], calls: &[u8], output: &mut [u8]) -> Answer {
                 result,
                 ending: Ending::Refused(result),
                 half_ticks: None,
+                moment_weights: None,
                 units: None,
                 gain_fits: 0,
                 turned_back: [0; 3],
@@ -103,14 +106,16 @@ pub fn checked_run(config: &[u8], calls: &[u8], output: &mut [u8]) -> Answer {
                 output[written..] == before[written..],
                 "later bytes are untouched"
             );
+            let model = match probe.status() {
+                IdentifyStatus::Done(model) => Some(model),
+                _ => None,
+            };
             Answer {
                 result: 0,
                 ending: ending(&probe, &account),
                 half_ticks: probe.half_ticks(),
-                units: match probe.status() {
-                    IdentifyStatus::Done(model) => of_model(&model),
-                    _ => None,
-                },
+                moment_weights: model.map(|model| model.moment_weights),
+                units: model.and_then(|model| of_model(&model)),
                 gain_fits: probe.gain_fits(),
                 turned_back: [6, 7, 8].map(|number| {
                     account
@@ -141,6 +146,8 @@ fn check(probe: &Probe, account: &Account, output: &[u8]) {
     } else {
         (0, 0)
     };
+    let half_ticks = probe.half_ticks().unwrap_or(0) as u32;
+    assert_eq!(2 * report.delay + report.half_tick, half_ticks, "delay");
     assert_eq!(report.warm, warm, "warm");
     assert_eq!(report.rows, rows, "rows");
     if account.ended {

@@ -1,4 +1,4 @@
-//! A probe of the Rust behind document 01's refusals, with 01's report.
+//! A probe of the Rust behind document 01's refusals, with the report of 01 and 02.
 
 use crate::access::{self, IdentifyAbort, IdentifyConfig, IdentifyProbe, IdentifyStatus};
 
@@ -116,6 +116,7 @@ impl Probe {
         let mut report = Report {
             kind: 0,
             delay: 0,
+            half_tick: 0,
             ticks: self.ticks,
             stored: marks.len() as u32,
             held: marks.iter().filter(|held| **held).count() as u32,
@@ -133,6 +134,7 @@ impl Probe {
                 let ([r1, r2], [m0, m1, m2]) = (model.rate_weights, model.moment_weights);
                 report.kind = 1;
                 report.delay = model.delay_ticks as u32;
+                report.half_tick = self.half_ticks().unwrap_or(0) as u32 % 2;
                 report.floats = [r1, r2, m0, m1, m2, model.dt_s];
             }
             IdentifyStatus::Aborted(IdentifyAbort::Unexcited) => report.kind = 2,
@@ -153,6 +155,8 @@ pub struct Report {
     pub kind: u32,
     /// Whole ticks of the delay; 0 unless done.
     pub delay: u32,
+    /// 1 where the delay has half a tick more, from the step that won, never from the weights.
+    pub half_tick: u32,
     pub ticks: u32,
     pub stored: u32,
     pub held: u32,
@@ -169,7 +173,8 @@ impl Report {
         let fields = [
             (self.kind, 2),
             (self.delay, 4),
-            (0, 2),
+            (self.half_tick, 1),
+            (0, 1),
             (self.ticks, 25),
             (self.stored, 12),
             (self.held, 12),

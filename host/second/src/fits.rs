@@ -7,9 +7,10 @@ pub struct Sample {
     pub held: bool,
 }
 
-/// A done probe's model: whole ticks of the delay; two rate weights, three moment weights, dt_s.
+/// A done probe's model: its delay; two rate weights, three moment weights, dt_s.
 pub struct Model {
-    pub d: u32,
+    /// The delay: 2·p of the recorded fit's position p, p + 1 of the integrated one's.
+    pub half_ticks: u32,
     pub floats: [f32; 6],
 }
 
@@ -142,7 +143,7 @@ pub fn classify(window: &[Sample], duration: f32) -> Class {
     if (residual / count).sqrt() <= 0.017 {
         let floats = [1.0 + c[0] + c[1], -c[1], c[2], c[3], c[4], dt_s];
         return Class::Done(Model {
-            d: d as u32,
+            half_ticks: 2 * d as u32,
             floats,
         });
     }
@@ -303,7 +304,7 @@ pub fn integrated(window: &[Sample], duration: f32) -> (Option<Model>, u32) {
     ];
     (
         Some(Model {
-            d: step as u32 / 2 + 1,
+            half_ticks: position as u32 + 1,
             floats,
         }),
         gains.made,

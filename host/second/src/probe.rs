@@ -166,9 +166,9 @@ impl Probe {
         let stored = self.window.len() as u32;
         let held = self.window.iter().filter(|sample| sample.held).count() as u32;
         let ended_rows = rows(&self.window).len() as u32;
-        let (kind, d, floats) = match &self.status {
+        let (kind, half_ticks, floats) = match &self.status {
             Status::Running => (0, 0, [0.0, 0.0, 0.0, 0.0, 0.0, self.elapsed]),
-            Status::Done(model) => (1, model.d, model.floats),
+            Status::Done(model) => (1, model.half_ticks, model.floats),
             Status::Unexcited => (2, 0, [0.0; 6]),
             Status::Saturated => (3, 0, [0.0; 6]),
         };
@@ -179,8 +179,9 @@ impl Probe {
         let mut digits = String::new();
         let fields = [
             (kind, 2),
-            (d, 4),
-            (0, 2),
+            (half_ticks / 2, 4),
+            (half_ticks % 2, 1),
+            (0, 1),
             (self.ticks, 25),
             (stored, 12),
             (held, 12),

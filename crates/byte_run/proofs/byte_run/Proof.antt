@@ -7,7 +7,7 @@ use Rattle.identify.specs.declared.Opened.the-variants.{Probe, Refused}
 use Rattle.byte_config.specs.ByteConfig.{configOf}
 use Rattle.wire.specs.Words.{Ran}
 use Rattle.byte_run.proofs.Reading.{output-size}
-use Rattle.byte_run.proofs.ByteRuns.{not-sized, run-refused, run-started}
+use Rattle.byte_run.proofs.ByteRuns.{not-sized, run-refused, run-started, tells}
 use Rattle.byte_run.proofs.byte_run.Statement.{statement}
 use Rattle.byte_run.proofs.byte_run.Tie as tie
 
@@ -43,7 +43,9 @@ returns c =
     let opened : openedBy (broken (configOf (a .config .now))) (configOf (a .config .now)) ≡ Refused (c .before .number .given .0 .0) =
     rw (← (nw .before .config-of .ensures)) (sym (nw .new .ensures) ∙ c .before .number .given .1) in
     let is = run-refused (a .config .now) (a .calls .now) (a .output .now) _ (sym (th .before .is-sized .ensures) ∙ th .if1 .taken) opened in
-    (sym (ap (λ (x : Ran). x .result) is), sym (ap (λ (x : Ran). x .output) is))
+    let result = sym (ap (λ (x : Ran). x .result) is) in
+    let output = sym (ap (λ (x : Ran). x .output) is) in
+    (result, (output, tells (a .config .now) (a .calls .now) (a .output .now) result output))
 
 same-length-2 : tie.Need-same-length-2
 same-length-2 c = search needs
@@ -58,7 +60,9 @@ returns-2 c =
     let opened : openedBy (broken (configOf (a .config .now))) (configOf (a .config .now)) ≡ Probe (pr .probe .given .0 .0) =
     rw (← (nw .before .config-of .ensures)) (sym (nw .new .ensures) ∙ pr .probe .given .1) in
     let is = run-started (a .config .now) (a .calls .now) (a .output .now) _ (sym (th .before .is-sized .ensures) ∙ th .if1 .taken) opened in
-    (sym (ap (λ (x : Ran). x .result) (is .1)), r .run .ensures (configOf (a .config .now)) (is .0) ∙ sym (ap (λ (x : Ran). x .output) (is .1)))
+    let result = sym (ap (λ (x : Ran). x .result) (is .1)) in
+    let output = r .run .ensures (configOf (a .config .now)) (is .0) ∙ sym (ap (λ (x : Ran). x .output) (is .1)) in
+    (result, (output, tells (a .config .now) (a .calls .now) (a .output .now) result output))
 
 same-length-3 : tie.Need-same-length-3
 same-length-3 c = search needs
@@ -67,7 +71,9 @@ returns-3 : tie.Need-returns-3
 returns-3 c =
     let a = c .before .before .before .before .before .before .args in
     let is = not-sized (a .config .now) (a .calls .now) (a .output .now) (sym (c .before .is-sized .ensures) ∙ c .if1 .left) in
-    (sym (ap (λ (x : Ran). x .result) is), sym (ap (λ (x : Ran). x .output) is))
+    let result = sym (ap (λ (x : Ran). x .result) is) in
+    let output = sym (ap (λ (x : Ran). x .output) is) in
+    (result, (output, tells (a .config .now) (a .calls .now) (a .output .now) result output))
 
 pub byte-run-spec : {M : Type 1} → statement M
 byte-run-spec =

@@ -16,7 +16,7 @@ pub struct Family {
     pub make: fn(&mut Random, &'static str) -> List,
 }
 
-pub const FAMILIES: [Family; 19] = [
+pub const FAMILIES: [Family; 20] = [
     Family {
         name: "clean flight",
         weight: 10,
@@ -61,6 +61,11 @@ pub const FAMILIES: [Family; 19] = [
         name: "nearly constant",
         weight: 4,
         make: windows::nearly_constant,
+    },
+    Family {
+        name: "gain of 0",
+        weight: 3,
+        make: windows::zero_gain,
     },
     Family {
         name: "overflowing residual",

@@ -129,6 +129,39 @@ pub fn nearly_constant(random: &mut Random, family: &'static str) -> List {
     List::new(random, family, &config, &calls)
 }
 
+/// One moment that is not 0, at ticks so long that neither a lag nor the integration carries it
+/// on, and rates that stand still wherever a step could see it: each gain is 0, all weights of the
+/// moment are 0, and the first step that sees the moment wins. Of a moment before tick 11, where
+/// the gain fits begin, that is a half one; before tick 2 no recorded fit solves.
+pub fn zero_gain(random: &mut Random, family: &'static str) -> List {
+    const LONGEST_DELAY: usize = 10;
+    let (ticks, dt) = (random.between(30, 60), random.range(52.5, 59.0) as f32);
+    let config = config_for(random, ticks, dt);
+    let seen = match random.below(4) {
+        0 => random.between(LONGEST_DELAY + 1, ticks - 15),
+        _ => random.between(2, LONGEST_DELAY),
+    };
+    let still = seen.max(LONGEST_DELAY + 1)..=seen + LONGEST_DELAY;
+    let mut calls: Vec<Call> = Vec::new();
+    for tick in 0..ticks {
+        let noise = random.between(0, 64) as f32 / 16.0 - 2.0;
+        calls.push(Call {
+            dt,
+            rate: match tick {
+                _ if still.contains(&tick) => calls[tick - 1].rate,
+                _ if tick + 1 == ticks => calls[LONGEST_DELAY].rate,
+                _ => noise,
+            },
+            moment: if tick == seen {
+                random.pick(&[1.0, -1.0, 0.5, 0.03])
+            } else {
+                0.0
+            },
+        });
+    }
+    List::new(random, family, &config, &calls)
+}
+
 /// Rates that walk so far that the integrated residual is infinite and the recorded one is not.
 pub fn overflowing(random: &mut Random, family: &'static str) -> List {
     let (ticks, dt) = (random.between(13, 200), random.scaled(0.001, 0.006) as f32);
