@@ -69,7 +69,7 @@ extern "C" {
  * Report, most significant bit first: kind 2 (0 running, 1 done, 2 unexcited, 3 saturated), d 4 (whole ticks of delay, 0 unless
  * done), half 1 (1 where the delay is half a tick longer than d, 0 for all else), zero 1, ticks 25, stored 12, held 12, warm 12,
  * rows 12, gain fits 12, zero 3; then six floats: two rate weights, three moment weights, dt_s (the elapsed seconds while it
- * runs). The delay of a done probe is d + half / 2 ticks, 1 to 10.5; in half ticks 2 * (output[0] >> 2 & 15) + (output[0] >> 1 & 1).
+ * runs). The delay of a done probe is d + half / 2 ticks, 1 to 10.5, where d is output[0] >> 2 & 15 and half output[0] >> 1 & 1.
  * The weights do not tell it: those of a gain of 0 are alike for a whole delay and for a half one.
  *
  * Answers 0, or a number, and then no byte is written:

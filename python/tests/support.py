@@ -35,7 +35,9 @@ def made_flight(
     return [dt] * ticks, rates, [0.0] + commands[:-1]
 
 
-def gainless_flight(seen: int, ticks: int = 40, dt: float = 56.0) -> tuple[identify.Config, list[float], list[float], list[float]]:
+def gainless_flight(
+    seen: int, ticks: int = 40, dt: float = 56.0
+) -> tuple[identify.Config, list[float], list[float], list[float]]:
     """A configuration and a noisy flight whose fitted gain is 0: one moment, at tick `seen`, in ticks so long that nothing
     is carried on from one to the next, and a rate that stands still wherever a delay could put that moment.
 

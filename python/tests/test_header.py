@@ -1,4 +1,4 @@
-"""The header's example, compiled against the real library and run; M1 through the same function, from C; and the demo's delay."""
+"""C callers, compiled against the real library and run: the header's example, M1, and the demo's delay."""
 import os
 import re
 import subprocess
@@ -39,16 +39,17 @@ def example() -> str:
     return "\n".join(line[7:] for line in comment.split("\n")[1:] if re.match(r" \*     ", line) or line == " *")
 
 
-def run(program: str, *given: str) -> str:
+def run(source: str, *given: str) -> str:
     """What a C program writes that is linked with the library: for each text that it reads, or once for none."""
     named = os.environ.get(library.VARIABLE)
     archive = Path(named).resolve() if named else library.built(ROOT)
     with tempfile.TemporaryDirectory() as name:
         folder = Path(name)
-        (folder / "program.c").write_text(program, encoding="utf8")
+        (folder / "program.c").write_text(source, encoding="utf8")
         words = ("cc", "-std=c99", "-Wall", "-Wextra", "-Werror", "-pedantic", "-I", str(HEADER.parent), "program.c", str(archive))
         subprocess.run((*words, f"-Wl,-rpath,{archive.parent}", "-o", "program"), cwd=folder, check=True)
-        runs = [subprocess.run((folder / "program",), input=text, capture_output=True, text=True, check=True) for text in given or ("",)]
+        program = folder / "program"
+        runs = (subprocess.run((program,), input=text, capture_output=True, text=True, check=True) for text in given or ("",))
         return "".join(run.stdout for run in runs)
 
 
