@@ -88,7 +88,7 @@ class Model:
 
     @property
     def whole_ticks(self) -> int:
-        """The d of the equation: the delay's whole ticks. A half lies in the second moment weight."""
+        """The d of the equation: the delay's whole ticks. Of a half delay the first two moment weights share the gain."""
         return self.half_ticks // 2
 
     @property

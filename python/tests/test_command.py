@@ -10,7 +10,7 @@ import unittest
 from pathlib import Path
 from unittest import mock
 
-from support import DEMO, ROOT, command, identify, log_text, made_flight
+from support import DEMO, ROOT, command, gainless_flight, identify, log_text, made_flight
 
 from identify import cli
 
@@ -139,6 +139,13 @@ class Json(unittest.TestCase):
         self.assertEqual(found["counts"]["gain_fits"], 2604)
         self.assertEqual(found["config"]["extension"], {"amplitude": 1.0, "duration_s": 8.0})
         self.assertEqual(len(bytes.fromhex(found["report_hex"])), 36)
+
+    def test_the_half_tick_of_a_flight_whose_gain_is_0(self):
+        for tick, half_ticks in ((10, 3), (11, 2)):
+            config, *flight = gainless_flight(tick)
+            words = ("-", "--json", "--no-extension", "--duration", str(config.duration_s))
+            found = json.loads(command(*words, given=log_text(*flight)).stdout)["model"]
+            self.assertEqual((found["delay_half_ticks"], found["moment_weights"]), (half_ticks, [0.0, 0.0, 0.0]))
 
     def test_lag_and_push(self):
         found = json.loads(command("-", "--json", given=log_text(*made_flight(3))).stdout)["model"]

@@ -15,19 +15,17 @@ use Rattle.account.specs.declared.IdentifyStatus.the-variants.{Running, Done, U
 use Rattle.delay.specs.declared.RateModel.{RateModel}
 use Rattle.report.specs.declared.Report.{Report}
 use Rattle.report.specs.Report.{kindOf, floatsOf, fieldsOf, packed, reportBytes}
-use Rattle.report.proofs.Bytes.{kind-small}
+use Rattle.report.proofs.Bytes.{kind-small, first-bits}
 use Rattle.units.specs.declared.PlainUnits.the-variants.{Nothing}
 use Rattle.units.specs.Units.{unitsOf}
 use Rattle.byte_units.specs.ByteUnits.{isDone, reportUnits, statusUnits, FloatsFit}
 
 -- ---- the first word
 first-small : (r : Report) → packed 0 (fieldsOf r) / 2 ^ 64 < 2 ^ 32
-unfolding packed fieldsOf
-first-small r = omega (arith, kind-small (r .status))
+first-small r = omega (arith, kind-small (r .status), first-bits r)
 
 kind-first : (r : Report) → packed 0 (fieldsOf r) / 2 ^ 64 / 2 ^ 30 ≡ kindOf (r .status)
-unfolding packed fieldsOf
-kind-first r = omega (arith, kind-small (r .status))
+kind-first r = omega (arith, kind-small (r .status), first-bits r)
 
 -- ---- the whole
 report-words : (r : Report) → reportBytes r ≡ wordBytes (packed 0 (fieldsOf r) / 2 ^ 64 ∷ packed 0 (fieldsOf r) / 2 ^ 32 % 2 ^ 32 ∷ packed 0 (fieldsOf r) % 2 ^ 32 ∷ map wordOf (floatsOf (r .status)))
