@@ -3,14 +3,16 @@
  *     cc -I include demo/delay.c target/staticlib/libexports.a -o delay
  *     ./delay < demo/noisy.csv        3.5 ticks
  *
- * The log has a first line with the names of its columns, among them dt, rate and moment, and a number or `nan` for each.
+ * The log has a first line with the names of its columns, among them dt, rate and moment. A reading that is missing is empty or
+ * `nan`.
  */
 #include "identify.h"
+#include <math.h>
 #include <stdio.h>
 #include <stdlib.h>
 #include <string.h>
 
-enum { MOST_CALLS = 100000, LONGEST_LINE = 1000 };
+enum { MOST_CALLS = 100000, MOST_COLUMNS = 20, LONGEST_LINE = 1000 };
 
 static uint8_t config[24], calls[12 * MOST_CALLS], output[36 + 4 * MOST_CALLS];
 
@@ -22,33 +24,41 @@ static void put(uint8_t *at, float x)
         at[i] = (uint8_t)(w >> (24 - 8 * i));
 }
 
-/* The place among dt, rate and moment of each column, or -1. */
-static int columns(char *line, int *places, int most)
+/* The next cell of a line. */
+static char *cell(char **rest)
+{
+    char *start = *rest;
+    char *end = start + strcspn(start, ",\r\n");
+    *rest = *end == ',' ? end + 1 : NULL;
+    *end = '\0';
+    return start;
+}
+
+/* The place of a column among dt, rate and moment, or -1. */
+static int place(const char *name)
 {
     static const char *const names[] = {"dt", "rate", "moment"};
-    int n = 0;
-    for (char *name = strtok(line, ",\r\n"); name && n < most; name = strtok(NULL, ",\r\n")) {
-        places[n] = -1;
-        for (int i = 0; i < 3; i++)
-            if (strcmp(name, names[i]) == 0)
-                places[n] = i;
-        n++;
-    }
-    return n;
+    for (int i = 0; i < 3; i++)
+        if (strcmp(name, names[i]) == 0)
+            return i;
+    return -1;
 }
 
 int main(void)
 {
     char line[LONGEST_LINE];
-    int places[20], count = 0;
+    int places[MOST_COLUMNS], columns = 0;
     size_t n = 0;
     if (fgets(line, sizeof line, stdin))
-        count = columns(line, places, 20);
+        for (char *rest = line; rest && columns < MOST_COLUMNS; columns++)
+            places[columns] = place(cell(&rest));
     for (; n < MOST_CALLS && fgets(line, sizeof line, stdin); n++) {
-        char *text = strtok(line, ",\r\n");
-        for (int i = 0; i < count && text; i++, text = strtok(NULL, ",\r\n"))
+        char *rest = line;
+        for (int i = 0; i < columns && rest; i++) {
+            const char *text = cell(&rest);
             if (places[i] >= 0)
-                put(calls + 12 * n + 4 * places[i], strtof(text, NULL));
+                put(calls + 12 * n + 4 * places[i], *text ? strtof(text, NULL) : NAN);
+        }
     }
     put(config, 0.5f);       /* amplitude */
     put(config + 4, 6.0f);   /* duration_s */
