@@ -39,9 +39,9 @@ use Rattle.account.specs.Probe.{finished, statusOf, delayOf, stands}
 use Rattle.account.specs.Account.{Account, ratesOf, momentsOf, marksOf}
 use Rattle.account.specs.Claim.{recordedPosition, integratedPosition, Delayed, byRecorded, byIntegrated, delayAt, delayBy, accountDelay}
 
--- what a status keeps of a delay: a model with it, or none
+-- what a status keeps of a delay: a model with it, one tick to ten and a half, or none
 data Keeps (a : Account) (s : IdentifyStatus) (d : Delay) : Type 0 where
-  model : (m : RateModel) → s ≡ status.Done m → Delayed a m → d ≡ m .delay → Keeps a s d
+  model : (m : RateModel) → s ≡ status.Done m → Delayed a m → d ≡ m .delay → 2 ≤ d .«half_ticks» → d .«half_ticks» ≤ 21 → Keeps a s d
   nothing : ((m : RateModel) → s ≡ status.Done m → ⊥) → delayOf s ≡ noDelay → d ≡ noDelay → Keeps a s d
 
 running : (a : Account) (e : Float) → Keeps a (status.Running e) noDelay
@@ -80,7 +80,8 @@ module _ (a : Account) where
   by-solved m solved.NoFit p dt rows moments q h = absurd (let z : _≡_ {A = ℕ} 0 1 = cc in omega arith)
   by-solved m (solved.Fit s) p dt rows moments q h =
       let same : ofRecorded p ≡ m .delay = ap (λ (x : RateModel). x .delay) (quiet (le (rooted _) noisyResidual) m (modelOf s p dt) moments h) in
-      model m refl (byRecorded p q (sym same)) same
+      let w = is-a-delay (solvedAt (ratesOf a) (momentsOf a) (marksOf a)) tieShare p q in
+      model m refl (byRecorded p q (sym same)) same (omega (arith, w .0)) (omega (arith, w .1))
 
   by-position : (m : RateModel) (q : Position) (f : ℕ → Solved) (dt : Float) (rows : ℕ) (moments : List Float) → recordedPosition a ≡ q
       → classOf (fitOf q f dt rows) moments ≡ Recorded m → Keeps a (status.Done m) (delayAt ofRecorded q)
@@ -97,7 +98,9 @@ module _ (a : Account) where
       → Keeps a (statusOf (chosenFrom k fit p dt .fitted)) (ofIntegrated p)
   unfolding chosenFrom modelled integrated.modelOf
   by-kept Empty fit p dt e h = absurd (h refl)
-  by-kept (Best b) fit p dt e h = model (integrated.modelOf (refined fit b .best) p dt) refl (byIntegrated p e refl) refl
+  by-kept (Best b) fit p dt e h =
+      let w = won zero32 _ p e in
+      model (integrated.modelOf (refined fit b .best) p dt) refl (byIntegrated p e refl) refl (omega (arith, w .from-one)) (omega (arith, w .in-list))
 
   by-step : (q : Position) (dt : Float) (fit : ℕ → Float → GainFit) → integratedPosition a ≡ q → delayToFit zero32 (integrated.entries (keptAt dt fit)) ≡ q
       → Keeps a (statusOf (chosenAt q dt fit .fitted)) (delayAt ofIntegrated q)
@@ -125,49 +128,20 @@ module _ (a : Account) where
   keeps true = running a (a .elapsed)
   keeps false = by-class (classify (ratesOf a) (momentsOf a) (marksOf a) (a .duration)) refl
 
-  -- ---- what it says: of the model, and of the account
-  of-model : {s : IdentifyStatus} {d : Delay} (m : RateModel) → s ≡ status.Done m → Keeps a s d → Delayed a m
-  of-model m e (model n f h k) = subst (Delayed a) (let same : n ≡ m = cc in same) h
+  -- ---- what it says: of a model, and of the account
+  of-model : {s : IdentifyStatus} {d : Delay} (m : RateModel) → s ≡ status.Done m → Keeps a s d → Delayed a m × (2 ≤ d .«half_ticks»)
+  of-model m e (model n f h k one most) = (subst (Delayed a) (let same : n ≡ m = cc in same) h, one)
   of-model m e (nothing h f k) = absurd (h m e)
 
-  pub delayed : (m : RateModel) → stands (a .running) (a .elapsed) (ratesOf a) (momentsOf a) (marksOf a) (a .duration) .status ≡ status.Done m → Delayed a m
-  delayed m e = of-model m e (keeps (a .running))
-
-  of-status : {s : IdentifyStatus} {d : Delay} → Keeps a s d → delayOf s ≡ d
+  of-status : {s : IdentifyStatus} {d : Delay} → Keeps a s d → (delayOf s ≡ d) × (d .«half_ticks» ≤ 21)
   unfolding delayOf
-  of-status (model m e h k) = rw e (sym k)
-  of-status (nothing h e k) = e ∙ sym k
+  of-status (model m e h k one most) = (rw e (sym k), most)
+  of-status (nothing h e k) = (e ∙ sym k, rw k (omega arith))
 
-  pub half-ticks : delayOf (stands (a .running) (a .elapsed) (ratesOf a) (momentsOf a) (marksOf a) (a .duration) .status) ≡ accountDelay a
+  pub of-done : (m : RateModel) → stands (a .running) (a .elapsed) (ratesOf a) (momentsOf a) (marksOf a) (a .duration) .status ≡ status.Done m → Delayed a m × (2 ≤ accountDelay a .«half_ticks»)
   unfolding accountDelay
-  half-ticks = of-status (keeps (a .running))
+  of-done m e = of-model m e (keeps (a .running))
 
-  -- ---- at most ten ticks and a half
-  recorded-range : (q : Position) → recordedPosition a ≡ q → delayAt ofRecorded q .«half_ticks» ≤ 21
-  unfolding delayAt
-  recorded-range Nowhere e = omega arith
-  recorded-range (At p) e = omega (arith, is-a-delay (solvedAt (ratesOf a) (momentsOf a) (marksOf a)) tieShare p e .1)
-
-  integrated-range : (q : Position) → integratedPosition a ≡ q → delayAt ofIntegrated q .«half_ticks» ≤ 21
-  unfolding delayAt
-  integrated-range Nowhere e = omega arith
-  integrated-range (At p) e = omega (arith, won zero32 _ p e .in-list)
-
-  long-range : (b : Bool) → cond b noDelay (delayAt ofIntegrated (integratedPosition a)) .«half_ticks» ≤ 21
-  long-range true = omega arith
-  long-range false = integrated-range (integratedPosition a) refl
-
-  class-range : (x : Classified) → delayBy x a .«half_ticks» ≤ 21
-  unfolding delayBy
-  class-range (Recorded m) = recorded-range (recordedPosition a) refl
-  class-range Integrated = long-range (leb (length (ratesOf a)) (firstTick + 1))
-  class-range Unexcited = omega arith
-  class-range Saturated = omega arith
-
-  range : (r : Bool) (x : Classified) → cond r noDelay (delayBy x a) .«half_ticks» ≤ 21
-  range true x = omega arith
-  range false x = class-range x
-
-  pub in-range : accountDelay a .«half_ticks» ≤ 21
+  pub of-any : (delayOf (stands (a .running) (a .elapsed) (ratesOf a) (momentsOf a) (marksOf a) (a .duration) .status) ≡ accountDelay a) × (accountDelay a .«half_ticks» ≤ 21)
   unfolding accountDelay
-  in-range = range (a .running) (classify (ratesOf a) (momentsOf a) (marksOf a) (a .duration))
+  of-any = of-status (keeps (a .running))

@@ -25,7 +25,7 @@ use Rattle.account.proofs.Follow.{follows, turns, begins, clocks}
 use Rattle.account.proofs.Counts.{count, full}
 use Rattle.account.proofs.Sweeps.{safe, safe-fresh, in-time}
 use Rattle.account.proofs.Fits.{fits}
-use Rattle.account.proofs.Delays.{delayed, half-ticks, in-range}
+use Rattle.account.proofs.Delays.{of-done, of-any}
 
 gain-pairs : (u : ℕ → Float) (s i : ℕ) (pole : Float) → s < stepCount
     → regressor s pole u i ≡ blend (isHalf s) (lagged pole u (firstTick + i + 1 - wholeTicksOf s)) (lagged pole u (firstTick + i - wholeTicksOf s))
@@ -69,9 +69,10 @@ accounted c calls =
       fits = fits (a .running) (a .elapsed) (ratesOf a) (momentsOf a) marks (a .duration);
       row-pairing = λ d k. first-moment (ratesOf a) (momentsOf a) d k;
       gain-pairing = λ s i pole h. gain-pairs (at (momentsOf a)) s i pole h;
-      delay = λ m h. delayed a m h;
-      half-ticks = half-ticks a;
-      in-range = in-range a;
+      delay = λ m h. of-done a m h .0;
+      half-ticks = of-any a .0;
+      from-one = λ m h. of-done a m h .1;
+      in-range = of-any a .1;
       inside = safely .inside;
       edges = λ x r h. passes (add binary32 (a .elapsed) (x .dt)) (after (fresh c) calls .sweep) (accepted-in-time a x (a .running) r h) safely .loop;
       continued = λ others. foldl-append next (opened c) calls others;

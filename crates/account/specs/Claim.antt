@@ -102,8 +102,9 @@ pub record Accounted (c : IdentifyConfig) (calls : List Call) (p : Probe) (a : A
       (lagged pole (at (momentsOf a)) (firstTick + i - wholeTicksOf s))
   -- "The delay .. is kept in a done probe"
   pub delay : (m : RateModel) → p .standing .status ≡ Done m → Delayed a m
-  -- 02, two, "1 for a half delay and 0 for all else": the delay that a report tells, its half tick too, is the account's, ten ticks and a half at most
+  -- 02, two, "1 for a half delay and 0 for all else": the delay that a report tells, its half tick too, is the account's; once done it is one tick to ten and a half
   pub half-ticks : delayOf (p .standing .status) ≡ accountDelay a
+  pub from-one : (m : RateModel) → p .standing .status ≡ Done m → 2 ≤ accountDelay a .«half_ticks»
   pub in-range : accountDelay a .«half_ticks» ≤ 21
   -- the sweep's last edge is not reached, and its edges at the next accepted call are those of 01's loop
   pub inside : p .sweep .edge < lastEdge
