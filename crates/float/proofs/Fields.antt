@@ -8,7 +8,7 @@ use lib.Ieee.{Float, Format, nan, inf, prec, low, hid, ones, top, odd, ofFields,
 use lib.Ieee.Fits.{eq→eqb}
 use lib.Ieee.Bits.{ofBits-toBits, cond-no, is-true}
 
-by-fields : (f : Format) (b : ℕ) → ofBits f b ≡ ofFields f (leb (top f) b) (b % top f / hid f) (b % hid f)
+pub by-fields : (f : Format) (b : ℕ) → ofBits f b ≡ ofFields f (leb (top f) b) (b % top f / hid f) (b % hid f)
 unfolding ofBits
 by-fields f b = refl
 

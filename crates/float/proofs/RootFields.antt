@@ -1,11 +1,12 @@
 -- What the fields of an f32 say of its square root.
 use mathlib.Core.Path.{_≡_, refl, sym, ap, _∙_}
+use mathlib.Core.Logic.{⊎-elim}
 use mathlib.Core.Bool.{Bool, true, false, not, cond}
-use Prim.Native.Nat.{ℕ, zero, suc, _+_, _-_, _*_, _/_, _^_, _<_}
-use native.Mathlib.Nat.{add-comm, mul-assoc, mul-right-comm, mul-div-cancel}
+use Prim.Native.Nat.{ℕ, zero, suc, _+_, _-_, _*_, _/_, _^_, _<_, min}
+use native.Mathlib.Nat.{eq-zero-or-pos, add-comm, mul-assoc, mul-right-comm, mul-div-cancel}
 use native.Mathlib.Omega.{arith}
 use lib.Count.{trailingZeros}
-use lib.Dec.{T, eqb, eqb·suc-zero}
+use lib.Dec.{T, eqb·suc-zero}
 use lib.IntN.{ℤ, pos}
 use lib.Pow.{pow-add}
 use lib.Ieee.{Float, nan, inf, fin, binary32, odd, up, down, minus, ofFields, ofBits, toBits, isNan, fits}
@@ -39,15 +40,28 @@ rooted-odd d (suc q) k =
     rooted-fin (suc q / 2 ^ t) e ∙ ap rootOf (squared (suc q / 2 ^ t * up e) (down e) (suc q) k (down-pos e) (odd-val d false (suc q) k 149))
 
 -- ---- above zero
-pub root-subnormal : (x t : ℕ) → x ≡ 0 → rooted (ofFields binary32 false x t) ≡ rootOf (t * 2 ^ 149)
+root-subnormal : (x t : ℕ) → x ≡ 0 → rooted (ofFields binary32 false x t) ≡ rootOf (t * 2 ^ 149)
 root-subnormal x t e = ap rooted (subnormal binary32 false x t e) ∙ rooted-odd 24 t 0
 
-pub root-normal : (x t : ℕ) → (x ≡ 0 → ⊥) → (x ≡ 255 → ⊥) → rooted (ofFields binary32 false x t) ≡ rootOf ((t + 2 ^ 23) * 2 ^ (x + 148))
+root-normal : (x t : ℕ) → (x ≡ 0 → ⊥) → (x ≡ 255 → ⊥) → rooted (ofFields binary32 false x t) ≡ rootOf ((t + 2 ^ 23) * 2 ^ (x + 148))
 root-normal x t p n =
     ap rooted (normal binary32 false x t p n)
     ∙ rooted-odd 24 (2 ^ 23 + t) (x - 1)
     ∙ ap (λ (z : ℕ). rootOf (z * 2 ^ (x - 1 + 149))) (add-comm (2 ^ 23) t)
     ∙ ap (λ (z : ℕ). rootOf ((t + 2 ^ 23) * 2 ^ z)) (let r : x - 1 + 149 ≡ x + 148 = omega arith in r)
+
+-- both, with the hidden digit h
+pub root-finite : (x t h : ℕ) → h ≡ min x 1 → (x ≡ 255 → ⊥) → rooted (ofFields binary32 false x t) ≡ rootOf ((t + h * 2 ^ 23) * 2 ^ (x + 149 - h))
+root-finite x t h e n = ⊎-elim none some (eq-zero-or-pos x)
+  where
+    at : (m k : ℕ) → m ≡ t + h * 2 ^ 23 → k ≡ x + 149 - h → rootOf (m * 2 ^ k) ≡ rootOf ((t + h * 2 ^ 23) * 2 ^ (x + 149 - h))
+    at m k i j = ap (λ (z : ℕ). rootOf (z * 2 ^ k)) i ∙ ap (λ (z : ℕ). rootOf ((t + h * 2 ^ 23) * 2 ^ z)) j
+
+    none : x ≡ 0 → rooted (ofFields binary32 false x t) ≡ rootOf ((t + h * 2 ^ 23) * 2 ^ (x + 149 - h))
+    none z = root-subnormal x t z ∙ at t 149 (omega (arith, e)) (omega (arith, e))
+
+    some : 0 < x → rooted (ofFields binary32 false x t) ≡ rootOf ((t + h * 2 ^ 23) * 2 ^ (x + 149 - h))
+    some z = root-normal x t (λ i. omega arith) n ∙ at (t + 2 ^ 23) (x + 148) (omega (arith, e)) (omega (arith, e))
 
 rooted-inf : rooted (inf false) ≡ inf false
 unfolding rooted

@@ -4,37 +4,34 @@ use mathlib.Core.Path.{_≡_, refl, sym, ap, _∙_, subst}
 use mathlib.Core.Logic.{⊎-elim}
 use mathlib.Core.Bool.{Bool, true, false, not, cond, true≢false}
 use Prim.Native.Nat.{ℕ, zero, suc, _+_, _-_, _*_, _/_, _%_, _^_, _≤_, _<_, compare}
-use native.Mathlib.Nat.{le-trans, le-of-eq, le-of-lt, le-of-suc-le-suc, lt-of-lt-of-le, lt-of-le-of-lt, lt-of-not-le, not-le-of-lt, eq-or-lt-of-le, lt-suc-self, zero-lt-suc, mod-lt, mul-le-mul, mul-le-mul-left, mul-le-mul-right, le-of-mul-le-mul-right, mul-lt-mul-of-pos-right, mul-pos, mul-assoc, mul-comm, mul-left-comm, mul-mul-mul-comm, mul-add, add-mul, div-lt-iff-lt-mul, le-div-iff-mul-le, div-add-mod', div-div-eq-div-mul}
+use native.Mathlib.Nat.{le-trans, le-of-eq, le-of-lt, le-of-suc-le-suc, lt-of-lt-of-le, lt-of-le-of-lt, eq-or-lt-of-le, eq-zero-or-pos, lt-suc-self, zero-lt-suc, mod-lt, mul-le-mul-left, mul-le-mul-right, le-of-mul-le-mul-right, mul-lt-mul-of-pos-right, mul-pos, mul-assoc, mul-comm, mul-left-comm, mul-mul-mul-comm, mul-add, add-mul, div-lt-iff-lt-mul, le-div-iff-mul-le, div-add-mod', div-div-eq-div-mul}
 use native.Mathlib.Numerals.{add-one}
 use native.Mathlib.Omega.{arith}
+use lib.Arith.{lt→nleb}
 use lib.Dec.{T, leb, ltb, eqb, ltb→lt, nltb→le}
 use lib.Pow.{pow-add, pow-pos, pow-mono}
-use lib.Ieee.{Float, nan, inf, fin, binary32, odd, units, size, round, le, ofFields, toBits, fits}
+use lib.Ieee.{Float, nan, inf, fin, binary32, odd, units, size, round, le, ofFields, ofBits, toBits, fits}
+use lib.Ieee.Bits.{is-false, ofBits-fits}
 use lib.Ieee.Digits.{size-le, size-reaches}
 use lib.Ieee.Exact.{HasValue, odd-sign}
 use lib.Ieee.Fits.{nearest-le, kept-lt, round-is}
 use lib.Ieee.Nearest.{closest, nearest-ge}
 use lib.Ieee.Order.{le-of-values}
-use lib.Ieee.Positive.{num, den, den-pos, positive, value→cross}
+use lib.Ieee.Positive.{num, den, den-pos, positive, positive-of-value, value→cross}
+use Rattle.whole_root.proofs.Squares.{twice, half-square, square-lt}
 use Rattle.float.specs.Root.{isqrt, nearRoot, rooted, NearestRoot}
 use Rattle.float.proofs.Closest.{closest-down, closest-up}
 use Rattle.float.proofs.Digits.{size-gt, lt-or-ge}
-use Rattle.float.proofs.Fields.{own}
-use Rattle.float.proofs.WholeRoot.{Root, isqrt-root, twice, near-up, near-down, root-ge, scaled, kOf, nOf}
+use Rattle.float.proofs.Fields.{own, by-fields, subnormal, normal}
+use Rattle.float.proofs.WholeRoot.{Root, isqrt-root, near-up, near-down, root-ge, scaled, kOf, nOf}
 use Rattle.float.proofs.RootFields.{rooted-odd}
 use Rattle.float.proofs.Signs.{sign, sign-fields}
 
 -- ---- squares
-square-lt : (x y : ℕ) → x * x < y * y → x < y
-square-lt x y h = lt-of-not-le (λ (g : y ≤ x). not-le-of-lt h (mul-le-mul g g))
-
 square-le : (x y : ℕ) → x * x ≤ y * y → x ≤ y
 square-le x y h =
     le-of-suc-le-suc
     (square-lt x (suc y) (lt-of-le-of-lt h (lt-of-le-of-lt (mul-le-mul-left y (le-of-lt (lt-suc-self y))) (mul-lt-mul-of-pos-right (lt-suc-self y) (zero-lt-suc y)))))
-
-half-square : (q : ℕ) → (2 * q + 1) * (2 * q + 1) ≡ 4 * (q * q + q) + 1
-half-square q = omega (arith, mul-add (2 * q + 1) (2 * q) 1, add-mul (2 * q) 1 (2 * q), twice q)
 
 half-scaled : (q C : ℕ) → (2 * q + 1) * C * ((2 * q + 1) * C) ≡ 4 * ((q * q + q) * (C * C)) + C * C
 half-scaled q C =
@@ -284,3 +281,29 @@ nearest-root x f p =
           (kept-ge X k q (q - 1) (w .over) (w .under) (i .q-is) (i .over) (i .under) (i .q-lo) (i .q-hi) (a * 2 ^ 149) c c-pos
           (le-trans (le-of-eq (sym (units-of c))) (squares-ge a c (num x) (den x) (2 ^ 149) (M * 2 ^ K) (den-pos x) val h)))));
     }
+
+-- ---- by bit patterns: every positive finite value, from 00000001, the smallest subnormal, to 7F7FFFFF, the largest; 0 and infinity
+positive-odd : (q k : ℕ) → 0 < q → T (positive (odd 24 false q k 149))
+positive-odd q k h = positive-of-value (odd 24 false q k 149) (q * 2 ^ k) (2 ^ 149) (odd-sign 24 false q k 149) (mul-pos h (pow-pos k))
+
+positive-bits : (b : ℕ) → 0 < b → b < 0x7f80_0000 → T (positive (ofBits binary32 b))
+positive-bits b lo hi =
+    let x = b % 2 ^ 31 / 2 ^ 23 in
+    let t = b % 2 ^ 23 in
+    let e : ofBits binary32 b ≡ ofFields binary32 false x t =
+    by-fields binary32 b ∙ ap (λ (s : Bool). ofFields binary32 s x t) (is-false (leb (2 ^ 31) b) (lt→nleb (2 ^ 31) b (omega arith))) in
+    subst (λ (y : Float). T (positive y)) (sym e)
+    (⊎-elim (λ (z : x ≡ 0). subst (λ (y : Float). T (positive y)) (sym (subnormal binary32 false x t z)) (positive-odd t 0 (omega arith)))
+    (λ (z : 0 < x). subst (λ (y : Float). T (positive y)) (sym (normal binary32 false x t (λ i. omega arith) (λ i. omega arith))) (positive-odd (2 ^ 23 + t) (x - 1) (omega arith)))
+    (eq-zero-or-pos x))
+
+pub every-positive : (b : ℕ) → 0 < b → b < 0x7f80_0000 → NearestRoot (ofBits binary32 b) (rooted (ofBits binary32 b))
+every-positive b lo hi = nearest-root (ofBits binary32 b) (ofBits-fits binary32 b) (positive-bits b lo hi)
+
+pub of-zero : rooted (ofBits binary32 0) ≡ ofBits binary32 0
+unfolding rooted ofBits
+of-zero = refl
+
+pub of-infinity : rooted (ofBits binary32 0x7f80_0000) ≡ ofBits binary32 0x7f80_0000
+unfolding rooted ofBits
+of-infinity = refl

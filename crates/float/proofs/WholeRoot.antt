@@ -2,21 +2,22 @@
 use mathlib.Core.Path.{_≡_, sym, ap, _∙_, subst}
 use mathlib.Core.Bool.{Bool, true, false, not, cond}
 use Prim.Native.Nat.{ℕ, zero, suc, _+_, _-_, _*_, _/_, _%_, _^_, _≤_, _<_, zero-le}
-use native.Mathlib.Nat.{le-trans, le-of-eq, le-of-suc-le-suc, le-antisymm, lt-of-lt-of-le, lt-of-not-le, lt-irrefl, mul-le-mul, mul-mul-mul-comm, mul-assoc, mul-le-mul-right, div-lt-iff-lt-mul, div-eq-of-eq-mul-left, pow-suc}
+use native.Mathlib.Nat.{le-trans, le-of-eq, le-of-suc-le-suc, le-antisymm, lt-of-lt-of-le, lt-of-not-le, lt-irrefl, mul-le-mul, mul-assoc, mul-le-mul-right, div-lt-iff-lt-mul, div-eq-of-eq-mul-left, pow-suc}
 use native.Mathlib.Omega.{arith}
 use borrow.Author.Tests.{lt-ltb, le-ltb}
 use lib.Count.{leadingZeros, leading-top}
 use lib.Dec.{T, leb, ltb, leb→le, nleb→lt, lit<, lit≤}
 use lib.Pow.{pow-add, pow-pos, pow-mono, shl-lt, shl-exact}
 use lib.Ieee.{binary32, units, size, ofBits}
+use Rattle.whole_root.specs.declared.WholeRoot.{WholeRoot}
+use Rattle.whole_root.specs.Rounds.{rounds, wholeOf, Whole}
+use Rattle.whole_root.proofs.Squares.{twice, next-square}
+use Rattle.whole_root.proofs.Rounds.{rounds-only}
 use Rattle.float.specs.Root.{isqrt, nearRoot, rootOf}
 use Rattle.float.proofs.Digits.{size-is}
 
 abbrev pub Root : ℕ → ℕ → Type 0
 Root n r = (r * r ≤ n) × (n < (r + 1) * (r + 1))
-
-pub twice : (a : ℕ) → 2 * a * (2 * a) ≡ 4 * (a * a)
-twice a = mul-mul-mul-comm 2 a 2 a
 
 pub isqrt-root : (d n : ℕ) → n < 4 ^ d → Root n (isqrt d n)
 unfolding isqrt
@@ -45,6 +46,10 @@ pub root-ge : (n r : ℕ) → 2 ^ 46 ≤ n → Root n r → 2 ^ 23 ≤ r
 root-ge n r h p =
     le-of-suc-le-suc (lt-of-not-le (λ (g : suc r ≤ 2 ^ 23). let k : r + 1 ≤ 2 ^ 23 = omega arith in lt-irrefl n (lt-of-lt-of-le (p .1) (le-trans (mul-le-mul k k) h))))
 
+-- what the rounds of a root leave
+pub root-whole : (n : ℕ) (w : WholeRoot) → Whole n w → Root n (w .root)
+root-whole n w h = (omega (arith, h .sum), next-square (w .root) (w .rest) n (omega (arith, h .sum)) (h .within))
+
 -- ---- the nearest whole root
 near-is : (n r : ℕ) → n < 2 ^ 48 → Root n r → nearRoot n ≡ cond (ltb (r * r + r) n) (r + 1) r
 unfolding nearRoot
@@ -55,6 +60,12 @@ near-up n r h p l = near-is n r h p ∙ ap (λ (b : Bool). cond b (r + 1) r) (lt
 
 pub near-down : (n r : ℕ) → n < 2 ^ 48 → Root n r → n ≤ r * r + r → nearRoot n ≡ r
 near-down n r h p l = near-is n r h p ∙ ap (λ (b : Bool). cond b (r + 1) r) (le-ltb (r * r + r) n l)
+
+pub whole-up : (n : ℕ) (w : WholeRoot) → n < 2 ^ 48 → Whole n w → w .root < w .rest → nearRoot n ≡ w .root + 1
+whole-up n w l h u = near-up n (w .root) l (root-whole n w h) (omega (arith, h .sum))
+
+pub whole-down : (n : ℕ) (w : WholeRoot) → n < 2 ^ 48 → Whole n w → w .rest ≤ w .root → nearRoot n ≡ w .root
+whole-down n w l h d = near-down n (w .root) l (root-whole n w h) (omega (arith, h .sum))
 
 -- ---- the root of m * 2 ^ e, where m has j + 1 digits: that of n = m * 2 ^ (e - 2 * k), k places up
 pub rootOf-zero : (n : ℕ) → n ≡ 0 → ofBits binary32 0 ≡ rootOf n
@@ -93,8 +104,17 @@ module _ (m e j k : ℕ) (lo : 2 ^ j ≤ m) (hi : m < 2 ^ suc j) (few : j < 24) 
   n-ge : 2 ^ 46 ≤ m * 2 ^ (e - 2 * k)
   n-ge = le-trans (pow-mono (even .1)) (le-trans (le-of-eq (pow-add 2 j (e - 2 * k))) (mul-le-mul-right (2 ^ (e - 2 * k)) lo))
 
-  n-is : m * 2 ^ (e - 2 * k) % 2 ^ 64 ≡ m * 2 ^ (e - 2 * k)
-  n-is = shl-exact (suc j) (e - 2 * k) 64 hi (omega (arith, even .2))
+  -- n is a word of 31 or 32 digits, 16 places up
+  word : m * 2 ^ (e - 2 * k - 16) * 2 ^ 16 ≡ m * 2 ^ (e - 2 * k)
+  word =
+      mul-assoc m (2 ^ (e - 2 * k - 16)) (2 ^ 16)
+      ∙ ap (λ (x : ℕ). m * x) (sym (pow-add 2 (e - 2 * k - 16) 16) ∙ ap (λ (x : ℕ). 2 ^ x) (let r : e - 2 * k - 16 + 16 ≡ e - 2 * k = omega (arith, even .1) in r))
+
+  word-lt : m * 2 ^ (e - 2 * k - 16) < 2 ^ 32
+  word-lt = lt-of-lt-of-le (shl-lt (suc j) (e - 2 * k - 16) hi) (pow-mono (let r : suc j + (e - 2 * k - 16) ≤ 32 = omega (arith, even .1, even .2) in r))
+
+  word-is : m * 2 ^ (e - 2 * k - 16) % 2 ^ 64 ≡ m * 2 ^ (e - 2 * k - 16)
+  word-is = shl-exact (suc j) (e - 2 * k - 16) 64 hi (omega (arith, even .2))
 
 -- ---- the same, with the digits counted by the leading zeros
 abbrev pub kOf : ℕ → ℕ → ℕ
@@ -103,9 +123,14 @@ kOf m e = (64 - leadingZeros 64 m + e - 47) / 2
 abbrev pub nOf : ℕ → ℕ → ℕ
 nOf m e = m * 2 ^ (e - 2 * kOf m e)
 
+abbrev pub wordOf : ℕ → ℕ → ℕ
+wordOf m e = m * 2 ^ (e - 2 * kOf m e - 16)
+
 pub record Scaled (m e : ℕ) : Type 0 where
-  pub even : 2 * kOf m e ≤ e
-  pub whole : nOf m e % 2 ^ 64 ≡ nOf m e
+  pub even : 2 * kOf m e + 16 ≤ e
+  pub whole : wordOf m e % 2 ^ 64 ≡ wordOf m e
+  pub small : wordOf m e < 2 ^ 32
+  pub word : wordOf m e * 2 ^ 16 ≡ nOf m e
   pub under : nOf m e < 2 ^ 48
   pub over : 2 ^ 46 ≤ nOf m e
   pub exact : m * 2 ^ e ≡ nOf m e * 2 ^ (2 * kOf m e)
@@ -121,11 +146,18 @@ pub scaled : (m e : ℕ) → m < 2 ^ 24 → 149 ≤ e → (m ≡ 0 → ⊥) → 
 scaled m e h far n =
     let d = digits m h n in
     let half : kOf m e ≡ (suc (d .0) + e - 47) / 2 = ap (λ (x : ℕ). (x + e - 47) / 2) (d .1) in
+    let v = even m e (d .0) (kOf m e) (d .2) (d .3) (d .4) far half in
     record {
-      even = even m e (d .0) (kOf m e) (d .2) (d .3) (d .4) far half .0;
-      whole = n-is m e (d .0) (kOf m e) (d .2) (d .3) (d .4) far half;
+      even = omega (arith, v .0, v .1, d .4);
+      whole = word-is m e (d .0) (kOf m e) (d .2) (d .3) (d .4) far half;
+      small = word-lt m e (d .0) (kOf m e) (d .2) (d .3) (d .4) far half;
+      word = word m e (d .0) (kOf m e) (d .2) (d .3) (d .4) far half;
       under = n-lt m e (d .0) (kOf m e) (d .2) (d .3) (d .4) far half;
       over = n-ge m e (d .0) (kOf m e) (d .2) (d .3) (d .4) far half;
       exact = whole-cut m e (d .0) (kOf m e) (d .2) (d .3) (d .4) far half;
       is = rootOf-is m e (d .0) (kOf m e) (d .2) (d .3) (d .4) far half;
     }
+
+-- 24 rounds make the root of every m but 0, and no other number of rounds does
+pub only-24 : (m e : ℕ) → m < 2 ^ 24 → 149 ≤ e → (m ≡ 0 → ⊥) → (k : ℕ) → wholeOf (rounds k (wordOf m e)) .root ≡ wholeOf (rounds 24 (wordOf m e)) .root → k ≡ 24
+only-24 m e h far n k i = let w = scaled m e h far n in rounds-only k 24 (wordOf m e) (omega (arith, w .word, w .over)) (w .small) i

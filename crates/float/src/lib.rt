@@ -154,23 +154,6 @@ pub fn narrow(x: f64) -> f32
 
 // ---- the square root
 
-// The whole part of the square root of n, bit by bit from the highest.
-fn whole_root(n: u64) -> u64
-    requires { ⌜ n < 2 ^ 48 ⌝ }
-    ensures { λ r. ⌜ (r * r ≤ n) × (n < (r + 1) * (r + 1)) × (r < 2 ^ 24) ⌝ }
-{
-    let mut root: u64 = 0;
-    let mut bit: u64 = 0x100_0000;
-    while 1 < bit {
-        bit = bit / 2;
-        let trial = root + bit;
-        if trial * trial <= n {
-            root = trial;
-        }
-    }
-    root
-}
-
 // The root of m * 2^e times 2^-298, the square of the smallest f32.
 fn root_of(m: u64, e: u64) -> f32
     requires { ⌜ (m < 2 ^ 24) × (149 ≤ e) × (e < 2 ^ 9) ⌝ }
@@ -179,16 +162,16 @@ fn root_of(m: u64, e: u64) -> f32
     if m == 0 {
         return 0.0;
     }
-    // n has 47 or 48 binary digits, and n * 4^k is m * 2^e.
+    // n has 31 or 32 binary digits, and n * 2^16 * 4^k is m * 2^e.
     let digits: u64 = 64 - (u64::leading_zeros(m) as u64);
     let k: u64 = (digits + e - 47) / 2;
-    let n: u64 = m << (e - 2 * k);
-    let root = whole_root(n);
+    let n: u64 = m << (e - 2 * k - 16);
+    let whole = whole_root::whole_root(n as u32);
     // (root + 1/2)^2 is root * root + root + 1/4
-    if root * root + root < n {
-        return packed(false, root + 1, k);
+    if whole.root < whole.rest {
+        return packed(false, whole.root + 1, k);
     }
-    packed(false, root, k)
+    packed(false, whole.root, k)
 }
 
 // The nearest f32 to the square root of a positive value; 0 of 0, -0 of -0, infinity of infinity,
@@ -207,15 +190,14 @@ pub fn root(x: f32) -> f32
     if bits > 0x8000_0000 {
         return not_a_number();
     }
-    let exponent: u32 = bits % 0x8000_0000 / 0x80_0000;
+    let exponent: u64 = (bits % 0x8000_0000 / 0x80_0000) as u64;
     if exponent == 255 {
         return x;
     }
-    let fraction: u32 = bits % 0x80_0000;
-    if exponent == 0 {
-        return root_of(fraction as u64, 149);
-    }
-    root_of((fraction + 0x80_0000) as u64, (exponent + 148) as u64)
+    let fraction: u64 = (bits % 0x80_0000) as u64;
+    // The hidden digit, 0 in a subnormal value.
+    let hidden: u64 = smaller(exponent, 1);
+    root_of(fraction + hidden * 0x80_0000, exponent + 149 - hidden)
 }
 
 // ---- exp

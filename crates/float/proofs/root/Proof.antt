@@ -11,7 +11,7 @@ use lib.Ieee.Positive.{positive}
 use Rattle.float.specs.Root.{rooted, NearestRoot}
 use Rattle.float.proofs.Nan.{is-nan, no-nan}
 use Rattle.float.proofs.Signs.{plain}
-use Rattle.float.proofs.RootFields.{root-subnormal, root-normal, root-infinite, rooted-nan, minus-zero, below-zero}
+use Rattle.float.proofs.RootFields.{root-finite, root-infinite, rooted-nan, minus-zero, below-zero}
 use Rattle.float.proofs.RootNear.{nearest-root}
 use Rattle.float.proofs.root.Statement.{statement}
 use Rattle.float.proofs.root.Tie as tie
@@ -49,6 +49,9 @@ returns-3 c =
     let start = c .before .before .before .before in
     both start (c .not-a-number2 .ensures ∙ sym (below-zero (start .args .x) (held start) (c .before .if3 .taken)))
 
+cast-exponent : tie.Need-cast-exponent
+cast-exponent c = search needs
+
 returns-4 : tie.Need-returns-4
 returns-4 c =
     let start = c .before .before .before .before in
@@ -60,40 +63,36 @@ returns-4 c =
     ∙ root-infinite (b % 2 ^ 31 / 2 ^ 23) (b % 2 ^ 23) (c .if4 .taken) (subst (λ (v : Float). T (not (isNan v))) o (no-nan x (c .before .before .before .if1 .left)))
     ∙ ap rooted (sym o))
 
-cast-root-of : tie.Need-cast-root-of
-cast-root-of c = search needs
+cast-fraction : tie.Need-cast-fraction
+cast-fraction c = search needs
+
+smaller-requires : tie.Need-smaller-requires
+smaller-requires c κs = search needs
+
+mul-root-of : tie.Need-mul-root-of
+mul-root-of c = search needs
+
+add-root-of : tie.Need-add-root-of
+add-root-of c = search needs
+
+add-root-of-2 : tie.Need-add-root-of-2
+add-root-of-2 c = search needs
+
+sub-root-of : tie.Need-sub-root-of
+sub-root-of c = search needs
 
 root-of-requires : tie.Need-root-of-requires
 root-of-requires c κs = search needs
 
 returns-5 : tie.Need-returns-5
 returns-5 c =
-    let start = c .before .before .before .before .before .before in
-    let b = toBits binary32 (start .args .x) in
-    both start (c .root-of .ensures ∙ sym (ap rooted (own-bits (c .before .before .before)) ∙ root-subnormal (b % 2 ^ 31 / 2 ^ 23) (b % 2 ^ 23) (c .before .if5 .taken)))
-
-add-root-of : tie.Need-add-root-of
-add-root-of c = search needs
-
-cast-root-of-2 : tie.Need-cast-root-of-2
-cast-root-of-2 c = search needs
-
-add-root-of-2 : tie.Need-add-root-of-2
-add-root-of-2 c = search needs
-
-cast-root-of-3 : tie.Need-cast-root-of-3
-cast-root-of-3 c = search needs
-
-root-of-requires-2 : tie.Need-root-of-requires-2
-root-of-requires-2 c κs = search needs
-
-returns-6 : tie.Need-returns-6
-returns-6 c =
-    let start = c .before .before .before .before .before .before in
+    let h = c .before in
+    let else4 = h .before in
+    let start = else4 .before .before .before .before in
     let b = toBits binary32 (start .args .x) in
     both start
-    (c .root-of2 .ensures
-    ∙ sym (ap rooted (own-bits (c .before .before .before)) ∙ root-normal (b % 2 ^ 31 / 2 ^ 23) (b % 2 ^ 23) (c .before .if5 .left) (c .before .before .if4 .left)))
+    (c .root-of .ensures
+    ∙ sym (ap rooted (own-bits (else4 .before)) ∙ root-finite (b % 2 ^ 31 / 2 ^ 23) (b % 2 ^ 23) (h .smaller .result) (h .smaller .ensures) (else4 .if4 .left)))
 
 pub root-spec : {M : Type 1} → statement M
 root-spec =
@@ -105,13 +104,13 @@ root-spec =
     returns-2
     not-a-number-requires-2
     returns-3
+    cast-exponent
     returns-4
-    cast-root-of
-    root-of-requires
-    returns-5
+    cast-fraction
+    smaller-requires
+    mul-root-of
     add-root-of
-    cast-root-of-2
     add-root-of-2
-    cast-root-of-3
-    root-of-requires-2
-    returns-6)
+    sub-root-of
+    root-of-requires
+    returns-5)
