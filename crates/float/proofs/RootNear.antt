@@ -282,7 +282,7 @@ nearest-root x f p =
           (le-trans (le-of-eq (sym (units-of c))) (squares-ge a c (num x) (den x) (2 ^ 149) (M * 2 ^ K) (den-pos x) val h)))));
     }
 
--- ---- by bit patterns: every positive finite value, from 00000001, the smallest subnormal, to 7F7FFFFF, the largest; 0 and infinity
+-- ---- 02, request three, by bit patterns: every positive finite value, from 00000001, the smallest subnormal, to 7F7FFFFF, the largest; 0 and infinity
 positive-odd : (q k : ℕ) → 0 < q → T (positive (odd 24 false q k 149))
 positive-odd q k h = positive-of-value (odd 24 false q k 149) (q * 2 ^ k) (2 ^ 149) (odd-sign 24 false q k 149) (mul-pos h (pow-pos k))
 
@@ -307,3 +307,12 @@ of-zero = refl
 pub of-infinity : rooted (ofBits binary32 0x7f80_0000) ≡ ofBits binary32 0x7f80_0000
 unfolding rooted ofBits
 of-infinity = refl
+
+-- computed at both ends
+of-smallest : rooted (ofBits binary32 1) ≡ ofBits binary32 0x1a35_04f3
+unfolding rooted ofBits
+of-smallest = refl
+
+of-largest : rooted (ofBits binary32 0x7f7f_ffff) ≡ ofBits binary32 0x5f7f_ffff
+unfolding rooted ofBits
+of-largest = refl

@@ -1,2 +1,3 @@
 pub mod Squares
 pub mod Rounds
+pub mod Examples

@@ -1,4 +1,4 @@
--- What k rounds have done: the root is that of n * 4 ^ k in units of 2 ^ 32, and has k digits.
+-- What k rounds have done: the root is that of n * 4 ^ k in units of 2 ^ 32. It has k digits where n has 31 or 32, and never more.
 -- So 24 rounds, of the 32 that 02 allows, make the 24 digits of an f32's root, and no other number of rounds makes them.
 use mathlib.Core.Path.{_≡_, refl, sym, ap, _∙_, subst}
 use mathlib.Core.Bool.{Bool, true, false, not, cond}
