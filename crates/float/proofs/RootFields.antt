@@ -52,16 +52,13 @@ root-normal x t p n =
 
 -- both, with the hidden digit h
 pub root-finite : (x t h : ℕ) → h ≡ min x 1 → (x ≡ 255 → ⊥) → rooted (ofFields binary32 false x t) ≡ rootOf ((t + h * 2 ^ 23) * 2 ^ (x + 149 - h))
-root-finite x t h e n = ⊎-elim none some (eq-zero-or-pos x)
+root-finite x t h e n =
+    ⊎-elim (λ (z : x ≡ 0). root-subnormal x t z ∙ at t 149 (omega (arith, e)) (omega (arith, e)))
+    (λ (z : 0 < x). root-normal x t (λ i. omega arith) n ∙ at (t + 2 ^ 23) (x + 148) (omega (arith, e)) (omega (arith, e)))
+    (eq-zero-or-pos x)
   where
     at : (m k : ℕ) → m ≡ t + h * 2 ^ 23 → k ≡ x + 149 - h → rootOf (m * 2 ^ k) ≡ rootOf ((t + h * 2 ^ 23) * 2 ^ (x + 149 - h))
     at m k i j = ap (λ (z : ℕ). rootOf (z * 2 ^ k)) i ∙ ap (λ (z : ℕ). rootOf ((t + h * 2 ^ 23) * 2 ^ z)) j
-
-    none : x ≡ 0 → rooted (ofFields binary32 false x t) ≡ rootOf ((t + h * 2 ^ 23) * 2 ^ (x + 149 - h))
-    none z = root-subnormal x t z ∙ at t 149 (omega (arith, e)) (omega (arith, e))
-
-    some : 0 < x → rooted (ofFields binary32 false x t) ≡ rootOf ((t + h * 2 ^ 23) * 2 ^ (x + 149 - h))
-    some z = root-normal x t (λ i. omega arith) n ∙ at (t + 2 ^ 23) (x + 148) (omega (arith, e)) (omega (arith, e))
 
 rooted-inf : rooted (inf false) ≡ inf false
 unfolding rooted

@@ -7,11 +7,10 @@ use Prim.Native.Nat.{ℕ, zero, suc, _+_, _-_, _*_, _/_, _%_, _^_, _≤_, _<_, c
 use native.Mathlib.Nat.{le-trans, le-of-eq, le-of-lt, le-of-suc-le-suc, lt-of-lt-of-le, lt-of-le-of-lt, eq-or-lt-of-le, eq-zero-or-pos, lt-suc-self, zero-lt-suc, mod-lt, mul-le-mul-left, mul-le-mul-right, le-of-mul-le-mul-right, mul-lt-mul-of-pos-right, mul-pos, mul-assoc, mul-comm, mul-left-comm, mul-mul-mul-comm, mul-add, add-mul, div-lt-iff-lt-mul, le-div-iff-mul-le, div-add-mod', div-div-eq-div-mul}
 use native.Mathlib.Numerals.{add-one}
 use native.Mathlib.Omega.{arith}
-use lib.Arith.{lt→nleb}
 use lib.Dec.{T, leb, ltb, eqb, ltb→lt, nltb→le}
 use lib.Pow.{pow-add, pow-pos, pow-mono}
 use lib.Ieee.{Float, nan, inf, fin, binary32, odd, units, size, round, le, ofFields, ofBits, toBits, fits}
-use lib.Ieee.Bits.{is-false, ofBits-fits}
+use lib.Ieee.Bits.{ofBits-fits}
 use lib.Ieee.Digits.{size-le, size-reaches}
 use lib.Ieee.Exact.{HasValue, odd-sign}
 use lib.Ieee.Fits.{nearest-le, kept-lt, round-is}
@@ -22,10 +21,10 @@ use Rattle.whole_root.proofs.Squares.{twice, half-square, square-lt}
 use Rattle.float.specs.Root.{isqrt, nearRoot, rooted, NearestRoot}
 use Rattle.float.proofs.Closest.{closest-down, closest-up}
 use Rattle.float.proofs.Digits.{size-gt, lt-or-ge}
-use Rattle.float.proofs.Fields.{own, by-fields, subnormal, normal}
+use Rattle.float.proofs.Fields.{own, subnormal, normal}
 use Rattle.float.proofs.WholeRoot.{Root, isqrt-root, near-up, near-down, root-ge, scaled, kOf, nOf}
 use Rattle.float.proofs.RootFields.{rooted-odd}
-use Rattle.float.proofs.Signs.{sign, sign-fields}
+use Rattle.float.proofs.Signs.{sign, sign-fields, unsigned}
 
 -- ---- squares
 square-le : (x y : ℕ) → x * x ≤ y * y → x ≤ y
@@ -290,9 +289,7 @@ positive-bits : (b : ℕ) → 0 < b → b < 0x7f80_0000 → T (positive (ofBits 
 positive-bits b lo hi =
     let x = b % 2 ^ 31 / 2 ^ 23 in
     let t = b % 2 ^ 23 in
-    let e : ofBits binary32 b ≡ ofFields binary32 false x t =
-    by-fields binary32 b ∙ ap (λ (s : Bool). ofFields binary32 s x t) (is-false (leb (2 ^ 31) b) (lt→nleb (2 ^ 31) b (omega arith))) in
-    subst (λ (y : Float). T (positive y)) (sym e)
+    subst (λ (y : Float). T (positive y)) (sym (unsigned b (omega arith)))
     (⊎-elim (λ (z : x ≡ 0). subst (λ (y : Float). T (positive y)) (sym (subnormal binary32 false x t z)) (positive-odd t 0 (omega arith)))
     (λ (z : 0 < x). subst (λ (y : Float). T (positive y)) (sym (normal binary32 false x t (λ i. omega arith) (λ i. omega arith))) (positive-odd (2 ^ 23 + t) (x - 1) (omega arith)))
     (eq-zero-or-pos x))

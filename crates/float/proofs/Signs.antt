@@ -7,16 +7,17 @@ use native.Mathlib.Omega.{arith}
 use lib.Arith.{lt→nleb}
 use lib.Dec.{T, leb, le→leb, eqb}
 use lib.IntN.{ℤ}
-use lib.Ieee.{Float, nan, inf, fin, binary32, odd, size, up, down, ofFields, toBits, isNan, fits}
+use lib.Ieee.{Float, nan, inf, fin, binary32, odd, size, up, down, ofFields, ofBits, toBits, isNan, fits}
 use lib.Ieee.Fits.{down-pos}
-use lib.Ieee.Bits.{is-true, is-false}
-use Rattle.float.proofs.Fields.{own, infinite}
+use lib.Ieee.Bits.{ofBits-toBits, is-true, is-false}
+use Rattle.float.proofs.Fields.{own, by-fields, infinite}
 
 -- a pattern below the sign's bit
+pub unsigned : (b : ℕ) → b < 2 ^ 31 → ofBits binary32 b ≡ ofFields binary32 false (b % 2 ^ 31 / 2 ^ 23) (b % 2 ^ 23)
+unsigned b h = by-fields binary32 b ∙ ap (λ (z : Bool). ofFields binary32 z (b % 2 ^ 31 / 2 ^ 23) (b % 2 ^ 23)) (is-false (leb (2 ^ 31) b) (lt→nleb (2 ^ 31) b h))
+
 pub plain : (x : Float) → T (fits binary32 x) → toBits binary32 x ≤ 2 ^ 31 → (toBits binary32 x ≡ 2 ^ 31 → ⊥) → x ≡ ofFields binary32 false (toBits binary32 x % 2 ^ 31 / 2 ^ 23) (toBits binary32 x % 2 ^ 23)
-plain x f l n =
-    let b = toBits binary32 x in
-    own binary32 x f ∙ ap (λ (z : Bool). ofFields binary32 z (b % 2 ^ 31 / 2 ^ 23) (b % 2 ^ 23)) (is-false (leb (2 ^ 31) b) (lt→nleb (2 ^ 31) b (omega arith)))
+plain x f l n = sym (ofBits-toBits binary32 x f) ∙ unsigned (toBits binary32 x) (omega arith)
 
 unfoldable pub sign : Float → Bool
 sign nan = true

@@ -1,32 +1,26 @@
 -- What k rounds have done: the root is that of n * 4 ^ k in units of 2 ^ 32. It has k digits where n has 31 or 32, and never more.
 -- So 24 rounds, of the 32 that 02 allows, make the 24 digits of an f32's root, and no other number of rounds makes them.
 use mathlib.Core.Path.{_≡_, refl, sym, ap, _∙_, subst}
-use mathlib.Core.Bool.{Bool, true, false, not, cond}
-use Prim.Native.Nat.{ℕ, zero, suc, _+_, _-_, _*_, _/_, _^_, _≤_, _<_}
+use mathlib.Core.Bool.{Bool, true, false, not}
+use Prim.Native.Nat.{ℕ, zero, suc, _+_, _*_, _/_, _^_, _≤_, _<_}
 use native.Mathlib.Nat.{le-trans, lt-of-lt-of-le, lt-irrefl, le-antisymm, lt-of-not-le, mul-comm, mul-assoc, mul-pos, mul-le-mul-right, mul-lt-mul-of-pos-right, mul-mul-mul-comm, pow-suc}
 use native.Mathlib.Numerals.{add-one}
 use native.Mathlib.Omega.{arith}
-use borrow.Author.Tests.{lt-ltb, le-ltb}
-use lib.Dec.{T, ltb, ltb→lt, nltb→le}
+use borrow.Author.Tests.{lt-leb, le-leb}
+use lib.Dec.{T, leb, leb→le, nleb→lt}
 use lib.Pow.{pow-pos, pow-mono}
 use Rattle.whole_root.specs.declared.PartialRoot.{PartialRoot}
-use Rattle.whole_root.specs.Rounds.{oneRound, rounds, wholeOf, Whole}
+use Rattle.whole_root.specs.Rounds.{trialOf, withDigit, oneRound, rounds, wholeOf, Whole}
 use Rattle.whole_root.proofs.Squares.{twice, half-square, square-lt, next-square}
 
 -- ---- a round by its test
-abbrev trialOf : PartialRoot → ℕ
-trialOf s = 2 * (2 * s .root) + 2 ^ 32
-
-abbrev pick : PartialRoot → Bool → PartialRoot
-pick s b = cond b (record { root = 2 * s .root; left = 4 * s .left }) (record { root = 2 * s .root + 2 ^ 32; left = 4 * s .left - trialOf s })
-
-pub digit-zero : (s : PartialRoot) → 4 * s .left < trialOf s → pick s true ≡ oneRound s
+pub digit-zero : (s : PartialRoot) → 4 * s .left < trialOf s → withDigit false s ≡ oneRound s
 unfolding oneRound
-digit-zero s l = sym (ap (pick s) (lt-ltb (4 * s .left) (trialOf s) l))
+digit-zero s l = sym (ap (λ (b : Bool). withDigit b s) (lt-leb (trialOf s) (4 * s .left) l))
 
-pub digit-one : (s : PartialRoot) → trialOf s ≤ 4 * s .left → pick s false ≡ oneRound s
+pub digit-one : (s : PartialRoot) → trialOf s ≤ 4 * s .left → withDigit true s ≡ oneRound s
 unfolding oneRound
-digit-one s l = sym (ap (pick s) (le-ltb (4 * s .left) (trialOf s) l))
+digit-one s l = sym (ap (λ (b : Bool). withDigit b s) (le-leb (trialOf s) (4 * s .left) l))
 
 -- ---- after k rounds: r are the root's digits as a number
 record Rounded (k n : ℕ) (s : PartialRoot) (r : ℕ) : Type 0 where
@@ -43,13 +37,13 @@ four n k =
 
 next : (k n : ℕ) (s : PartialRoot) (r : ℕ) → Rounded k n s r → (q : ℕ) × Rounded (suc k) n (oneRound s) q
 unfolding oneRound
-next k n s r h = go (ltb (4 * s .left) (trialOf s)) (ltb→lt (4 * s .left) (trialOf s)) (nltb→le (4 * s .left) (trialOf s))
+next k n s r h = go (leb (trialOf s) (4 * s .left)) (leb→le (trialOf s) (4 * s .left)) (nleb→lt (trialOf s) (4 * s .left))
   where
-    go : (b : Bool) → (T b → 4 * s .left < trialOf s) → (T (not b) → trialOf s ≤ 4 * s .left) → (q : ℕ) × Rounded (suc k) n (pick s b) q
+    go : (b : Bool) → (T b → trialOf s ≤ 4 * s .left) → (T (not b) → 4 * s .left < trialOf s) → (q : ℕ) × Rounded (suc k) n (withDigit b s) q
     go true p q =
-        (2 * r, record { units = omega (arith, h .units); sum = omega (arith, twice r, h .sum, four n k); within = omega (arith, h .units, p tt) })
+        (2 * r + 1, record { units = omega (arith, h .units); sum = omega (arith, half-square r, h .units, h .sum, four n k, p tt); within = omega (arith, h .units, h .within, p tt) })
     go false p q =
-        (2 * r + 1, record { units = omega (arith, h .units); sum = omega (arith, half-square r, h .units, h .sum, four n k, q tt); within = omega (arith, h .units, h .within, q tt) })
+        (2 * r, record { units = omega (arith, h .units); sum = omega (arith, twice r, h .sum, four n k); within = omega (arith, h .units, q tt) })
 
 rounded : (k n : ℕ) → n < 2 ^ 32 → (r : ℕ) × Rounded k n (rounds k n) r
 unfolding rounds
@@ -86,7 +80,7 @@ root-is : (k n : ℕ) (h : n < 2 ^ 32) → wholeOf (rounds k n) .root ≡ digits
 unfolding wholeOf
 root-is k n h = omega (arith, rounded k n h .1 .units)
 
--- no two numbers of rounds make the same root
+-- no two numbers of rounds make the same root of such an n
 pub rounds-only : (j k n : ℕ) → 2 ^ 30 ≤ n → n < 2 ^ 32 → wholeOf (rounds j n) .root ≡ wholeOf (rounds k n) .root → j ≡ k
 rounds-only j k n lo h e =
     let d = sym (root-is j n h) ∙ e ∙ root-is k n h in
@@ -106,11 +100,10 @@ room k n l h =
 pub whole : (n : ℕ) → n < 2 ^ 32 → Whole (n * 2 ^ 16) (wholeOf (rounds 24 n))
 unfolding wholeOf
 whole n h =
-    let s = rounds 24 n in
-    let r = digits n h 24 in
+    let left = rounds 24 n .left in
     let t = rounded 24 n h .1 in
-    let e : s .root / 2 ^ 32 ≡ r = omega (arith, t .units) in
+    let e = sym (root-is 24 n h) in
     record {
-      sum = subst (λ (x : ℕ). x * x + s .left / 2 ^ 32 ≡ n * 2 ^ 16) (sym e) (omega (arith, t .sum));
-      within = subst (λ (x : ℕ). s .left / 2 ^ 32 ≤ 2 * x) (sym e) (omega (arith, t .within));
+      sum = subst (λ (r : ℕ). r * r + left / 2 ^ 32 ≡ n * 2 ^ 16) e (omega (arith, t .sum));
+      within = subst (λ (r : ℕ). left / 2 ^ 32 ≤ 2 * r) e (omega (arith, t .within));
     }

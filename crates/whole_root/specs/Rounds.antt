@@ -1,22 +1,26 @@
 -- The whole-number root bit by bit: 02, request three.
 -- "build the whole-number root bit by bit, in at most 32 rounds and with no division but by a constant power of two"
 use mathlib.Core.Path.{_≡_}
-use mathlib.Core.Bool.{cond}
+use mathlib.Core.Bool.{Bool, true, false}
 use Prim.Native.Nat.{ℕ, zero, suc, _+_, _-_, _*_, _/_, _^_, _≤_}
-use lib.Dec.{ltb}
+use lib.Dec.{leb}
 use Rattle.whole_root.specs.declared.PartialRoot.{PartialRoot}
 use Rattle.whole_root.specs.declared.WholeRoot.{WholeRoot}
 
--- One round: the number grows fourfold and so its root twofold, and the root gets one binary digit more, a 1 where (root + 1)² = root² + 2·root + 1 is not above the number.
--- All is in units of 2 ^ 32.
+-- In a round the number grows fourfold and so its root twofold, and the root gets one binary digit. All is in units of 2 ^ 32.
+
+-- what the digit 1 takes: (root + 1)² - root² = 2·root + 1, of the root that has grown
+abbrev pub trialOf : PartialRoot → ℕ
+trialOf s = 2 * (2 * s .root) + 2 ^ 32
+
+-- the root with the next digit, 1 or 0
+abbrev pub withDigit : Bool → PartialRoot → PartialRoot
+withDigit true s = record { root = 2 * s .root + 2 ^ 32; left = 4 * s .left - trialOf s }
+withDigit false s = record { root = 2 * s .root; left = 4 * s .left }
+
+-- one round
 unfoldable pub oneRound : PartialRoot → PartialRoot
-oneRound s =
-    let left = 4 * s .left in
-    let root = 2 * s .root in
-    let trial = 2 * root + 2 ^ 32 in
-    cond (ltb left trial)
-    (record { root = root; left = left })
-    (record { root = root + 2 ^ 32; left = left - trial })
+oneRound s = withDigit (leb (trialOf s) (4 * s .left)) s
 
 -- where k rounds lead, from n
 unfoldable pub rounds : ℕ → ℕ → PartialRoot

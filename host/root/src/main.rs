@@ -70,20 +70,17 @@ fn first_other_of_all(root: Root) -> Option<u32> {
     })
 }
 
-/// Positive finite values of every exponent.
-fn values(count: usize) -> Vec<f32> {
-    let mut state = 1u32;
+/// Positive finite values of every exponent, in no order.
+fn values(count: u32) -> Vec<f32> {
     (0..count)
-        .map(|_| {
-            state = state.wrapping_mul(1_664_525).wrapping_add(1_013_904_223);
-            f32::from_bits(1 + ((u64::from(state) * 0x7f7f_ffff) >> 32) as u32)
-        })
+        .map(|number| u64::from(number.wrapping_mul(0x9e37_79b9)))
+        .map(|scattered| f32::from_bits(1 + ((scattered * 0x7f7f_ffff) >> 32) as u32))
         .collect()
 }
 
 /// ns a root: of values that do not wait for each other, and of values each of which waits for the
 /// root before it.
-fn times(root: Root, values: &[f32]) -> (f64, f64) {
+fn times(root: Root, values: &[f32]) -> [f64; 2] {
     let root = black_box(root);
     let per = 1e9 / values.len() as f64;
     let start = Instant::now();
@@ -97,32 +94,25 @@ fn times(root: Root, values: &[f32]) -> (f64, f64) {
         last = root(value + last * 0.0);
     }
     black_box(last);
-    (apart, start.elapsed().as_secs_f64() * per)
+    [apart, start.elapsed().as_secs_f64() * per]
 }
 
-fn median(mut values: Vec<f64>) -> f64 {
-    values.sort_by(f64::total_cmp);
-    values[values.len() / 2]
-}
-
-fn timing(root: Root) {
+/// Prints the least times of 51 repetitions, the library's and the machine's in turn.
+fn print_times(root: Root) {
     let values = values(1_000_000);
-    let both: Vec<_> = (0..51)
-        .map(|_| (times(root, &values), times(machine_root, &values)))
-        .collect();
-    for (what, ours, machine) in [
-        (
-            "apart",
-            median(both.iter().map(|pair| pair.0.0).collect()),
-            median(both.iter().map(|pair| pair.1.0).collect()),
-        ),
-        (
-            "in a chain",
-            median(both.iter().map(|pair| pair.0.1).collect()),
-            median(both.iter().map(|pair| pair.1.1).collect()),
-        ),
+    let mut least = [[f64::INFINITY; 2]; 2];
+    for _ in 0..51 {
+        for (least, root) in least.iter_mut().zip([root, machine_root]) {
+            let times = times(root, &values);
+            *least = [least[0].min(times[0]), least[1].min(times[1])];
+        }
+    }
+    let [library, machine] = least;
+    for (what, ours, theirs) in [
+        ("apart", library[0], machine[0]),
+        ("in a chain", library[1], machine[1]),
     ] {
-        println!("a root, {what:<10} library {ours:>6.2} ns, machine {machine:>5.2} ns");
+        println!("a root, {what:<10} library {ours:>6.2} ns, machine {theirs:>5.2} ns");
     }
 }
 
@@ -132,7 +122,7 @@ fn looked_at(archive: &str, root: Root) -> Result<(), String> {
         "float::root: {} instructions in {} function(s), no division and no square root among them",
         code.instructions, code.functions
     );
-    timing(root);
+    print_times(root);
     match first_other_of_all(root) {
         Some(bits) => Err(format!("the root of {bits:08X} is not the machine's")),
         None => {
