@@ -4,4 +4,6 @@ pub mod Counts
 pub mod Sweeps
 pub mod Fits
 pub mod Delays
+pub mod Durations
+pub mod Finite
 pub mod Theorem

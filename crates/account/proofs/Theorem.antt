@@ -26,6 +26,8 @@ use Rattle.account.proofs.Counts.{count, full}
 use Rattle.account.proofs.Sweeps.{safe, safe-fresh, in-time}
 use Rattle.account.proofs.Fits.{fits}
 use Rattle.account.proofs.Delays.{of-done, of-any}
+use Rattle.account.proofs.Durations.{duration}
+use Rattle.account.proofs.Finite.{by-integrated, finite-model}
 
 gain-pairs : (u : ℕ → Float) (s i : ℕ) (pole : Float) → s < stepCount
     → regressor s pole u i ≡ blend (isHalf s) (lagged pole u (firstTick + i + 1 - wholeTicksOf s)) (lagged pole u (firstTick + i - wholeTicksOf s))
@@ -73,6 +75,8 @@ accounted c calls =
       half-ticks = of-any a .0;
       from-one = λ m h. of-done a m h .1;
       in-range = of-any a .1;
+      by-integrated = λ m e h. by-integrated a (a .running) m e h;
+      finite-model = λ m e h. finite-model a (a .running) m (duration c calls) e h;
       inside = safely .inside;
       edges = λ x r h. passes (add binary32 (a .elapsed) (x .dt)) (after (fresh c) calls .sweep) (accepted-in-time a x (a .running) r h) safely .loop;
       continued = λ others. foldl-append next (opened c) calls others;

@@ -29,10 +29,15 @@ use Rattle.gain.specs.Gain.{firstTick, stepCount, wholeTicksOf, isHalf, blend, 
 use Rattle.grid.specs.Grid.{keptAt}
 use Rattle.integrated.specs.Integrated.{windowFit, meanDt}
 use Rattle.integrated.specs.Integrated as integrated
+use Rattle.finite_model.specs.FiniteModel.{FiniteModel}
 use Rattle.account.specs.declared.IdentifyConfig.{IdentifyConfig}
 use Rattle.account.specs.declared.IdentifyStatus.the-variants.{Done}
 use Rattle.account.specs.Probe.{Call, Probe, clock, delayOf, stands, fresh, replies, number}
 use Rattle.account.specs.Account.{Account, opened, account, turned, turnedBack, accepted, time, ratesOf, momentsOf, marksOf, runsOf}
+
+-- the class of the account's window
+abbrev pub accountClass : Account → Classified
+accountClass a = classify (ratesOf a) (momentsOf a) (marksOf a) (a .duration)
 
 -- the position that the tie rule gives for the account's entries, in the recorded fit and in the integrated one
 abbrev pub recordedPosition : Account → Position
@@ -63,7 +68,7 @@ delayBy class.Saturated a = noDelay
 
 -- the account's delay: none while it runs
 unfoldable pub accountDelay : Account → Delay
-accountDelay a = cond (a .running) noDelay (delayBy (classify (ratesOf a) (momentsOf a) (marksOf a) (a .duration)) a)
+accountDelay a = cond (a .running) noDelay (delayBy (accountClass a) a)
 
 pub record Accounted (c : IdentifyConfig) (calls : List Call) (p : Probe) (a : Account) : Type 0 where
   -- "the calls that answered a number are those the account turned back", with the same numbers
@@ -106,6 +111,9 @@ pub record Accounted (c : IdentifyConfig) (calls : List Call) (p : Probe) (a : A
   pub half-ticks : delayOf (p .standing .status) ≡ accountDelay a
   pub from-one : (m : RateModel) → p .standing .status ≡ Done m → 2 ≤ accountDelay a .«half_ticks»
   pub in-range : accountDelay a .«half_ticks» ≤ 21
+  -- 02, four, "An integrated model then holds finite numbers only": a done probe that made gain fits is done by the integrated fit, and the six floats of such a one are finite
+  pub by-integrated : (m : RateModel) → p .standing .status ≡ Done m → 1 ≤ p .standing .fits → accountClass a ≡ class.Integrated
+  pub finite-model : (m : RateModel) → p .standing .status ≡ Done m → accountClass a ≡ class.Integrated → FiniteModel m
   -- the sweep's last edge is not reached, and its edges at the next accepted call are those of 01's loop
   pub inside : p .sweep .edge < lastEdge
   pub edges : (x : Call) → a .running ≡ true → turned a x ≡ 0

@@ -1,4 +1,4 @@
--- A byte run, by its tests: the sizes, and what the configuration opens. The delay that it tells.
+-- A byte run, by its tests: the sizes, and what the configuration opens. The delay and the model that it tells.
 use Prim.Native.Nat.{ℕ, zero, suc}
 use mathlib.Core.Path.{_≡_, refl, sym, _∙_}
 use mathlib.Core.Bool.{Bool, true, false}
@@ -14,9 +14,9 @@ use Rattle.identify.specs.declared.IdentifyProbe.{IdentifyProbe}
 use Rattle.identify.specs.declared.Opened.the-variants.{Probe, Refused}
 use Rattle.identify.specs.Seen.{freshProbe, openedBy}
 use Rattle.byte_config.specs.ByteConfig.{configOf}
-use Rattle.report.specs.Report.{Tells}
-use Rattle.probe_report.proofs.Reported.{reported, told}
-use Rattle.byte_run.specs.ByteRun.{callsOf, written, onto, sized, ran, runIf, byteRun, TellsDelay}
+use Rattle.report.specs.Report.{Tells, TellsFinite}
+use Rattle.probe_report.proofs.Reported.{reported, told, finite-told}
+use Rattle.byte_run.specs.ByteRun.{callsOf, written, onto, sized, ran, runIf, byteRun, TellsDelay, TellsModel}
 
 module _ (c : IdentifyConfig) (calls : List Call) (output : List ℕ) where
   turned-away : (b n : ℕ) → openedBy b c ≡ Refused n → ran b c calls output ≡ record { result = n; output = output }
@@ -29,9 +29,9 @@ module _ (c : IdentifyConfig) (calls : List Call) (output : List ℕ) where
   started zero p h = (cc, refl)
   started (suc b) p h = absurd (let z : _≡_ {A = ℕ} 0 1 = cc in omega arith)
 
-  started-tells : (b : ℕ) → ran b c calls output .result ≡ 0 → Tells (ran b c calls output .output) (accountDelay (account (opened c) calls))
+  started-tells : (b : ℕ) → ran b c calls output .result ≡ 0 → Tells (ran b c calls output .output) (accountDelay (account (opened c) calls)) × TellsFinite (ran b c calls output .output)
   unfolding ran onto written
-  started-tells zero h = rw (append-assoc, ← reported (accounted c calls)) (told (accounted c calls) _)
+  started-tells zero h = let k = accounted c calls in rw (append-assoc, ← reported k) (told k _, finite-told k _)
   started-tells (suc b) h = absurd (omega arith)
 
 module _ (config calls output : List ℕ) where
@@ -49,11 +49,12 @@ module _ (config calls output : List ℕ) where
   unfolding byteRun runIf
   run-started p h k = rw h (started (configOf config) (callsOf calls) output (broken (configOf config)) p k)
 
-  sized-tells : (b : Bool) → runIf b config calls output .result ≡ 0 → Tells (runIf b config calls output .output) (accountDelay (account (opened (configOf config)) (callsOf calls)))
+  sized-tells : (b : Bool) → runIf b config calls output .result ≡ 0
+      → Tells (runIf b config calls output .output) (accountDelay (account (opened (configOf config)) (callsOf calls))) × TellsFinite (runIf b config calls output .output)
   unfolding runIf
   sized-tells true h = started-tells (configOf config) (callsOf calls) output (broken (configOf config)) h
   sized-tells false h = absurd (omega arith)
 
-  pub tells : {result : ℕ} {after : List ℕ} → result ≡ byteRun config calls output .result → after ≡ byteRun config calls output .output → TellsDelay config calls result after
+  pub tells : {result : ℕ} {after : List ℕ} → result ≡ byteRun config calls output .result → after ≡ byteRun config calls output .output → TellsDelay config calls result after × TellsModel result after
   unfolding byteRun
-  tells e f h = rw f (sized-tells (sized config calls output) (sym e ∙ h))
+  tells e f = (λ h. rw f (sized-tells (sized config calls output) (sym e ∙ h) .0), λ h. rw f (sized-tells (sized config calls output) (sym e ∙ h) .1))

@@ -15,7 +15,7 @@ use Rattle.account.specs.Rules.{positive, nonZero, tooLong, brokenExtension, br
 use Rattle.recorded.specs.Classify.{effectOf, entryOf, modelOf, fitAt, fitOf, entries, solvedAt, rowsDt, fitRecorded, classOf, classify}
 use Rattle.rows.specs.Rows.{target, regressors, product, projection, each, sumsBy, noSums, sumRows, windowSums}
 use Rattle.cholesky.specs.Cholesky.{fillDown, less, reduced, factorEntry, factor, above, forwardEntry, forward, backwardEntry, backward}
-use Rattle.least_squares.specs.Solve.{dot, residualOf, allFinite, kept, solveIf, solveWith, solve}
+use Rattle.least_squares.specs.Solve.{dot, differenceOf, allFinite, kept, solveIf, solveWith, solve}
 use Rattle.delay.specs.Tie.{considered, residuals, lesser, leastTo, within, firstFrom, underBar, shortestTied, delayToFit}
 use Rattle.window.specs.Walk.{run, over, many}
 use Rattle.window.specs.Runs.{goodRuns, runsFrom, heldOf, rowsOf, warmOf}
@@ -63,7 +63,7 @@ pub record Marked : Type 0 where
   pub M12 : (heldOf window.broken ≡ 1) × (warmOf (goodRuns window.broken) ≡ 22) × (length (rowsOf (goodRuns window.broken)) ≡ 3)
 
 pub marked : Marked
-unfolding m1-config m1-call m1-ran byteRun runIf ran sized broken brokenExtension nonZero positive tooLong configOf extensionOf floatAt wordAt finite ofBits ofInt lt eq onto written callsOf callsTo callAt replyWord reportBytes wordBytes bytesOf packed fieldsOf floatsOf delayOf kindOf ofAccount opened entry counted judged ended accept time turned continue next clock fresh finished stands takes extend close tick answer step replies overrun refusal effectOf entryOf modelOf fitAt fitOf entries solvedAt rowsDt fitRecorded classOf classify target regressors product projection sumsBy noSums sumRows windowSums fillDown less each reduced factorEntry factor above forwardEntry forward backwardEntry backward dot residualOf allFinite kept solveIf solveWith solve considered residuals lesser leastTo within firstFrom underBar shortestTied delayToFit run over many runsFrom heldOf rowsOf warmOf noSamples lastOf push hold bad store halfPeriod started passEdge due passDue passEdges square washed withWashout withAmplitude swept nextSweep maxZero least isqrt nearRoot rootOf rooted sumTo fill toBits add sub mul div neg le ne
+unfolding m1-config m1-call m1-ran byteRun runIf ran sized broken brokenExtension nonZero positive tooLong configOf extensionOf floatAt wordAt finite ofBits ofInt lt eq onto written callsOf callsTo callAt replyWord reportBytes wordBytes bytesOf packed fieldsOf floatsOf delayOf kindOf ofAccount opened entry counted judged ended accept time turned continue next clock fresh finished stands takes extend close tick answer step replies overrun refusal effectOf entryOf modelOf fitAt fitOf entries solvedAt rowsDt fitRecorded classOf classify target regressors product projection sumsBy noSums sumRows windowSums fillDown less each reduced factorEntry factor above forwardEntry forward backwardEntry backward dot differenceOf allFinite kept solveIf solveWith solve considered residuals lesser leastTo within firstFrom underBar shortestTied delayToFit run over many runsFrom heldOf rowsOf warmOf noSamples lastOf push hold bad store halfPeriod started passEdge due passDue passEdges square washed withWashout withAmplitude swept nextSweep maxZero least isqrt nearRoot rootOf rooted sumTo fill toBits add sub mul div neg le ne
 marked = record {
   M1 = refl;
   M2 = sweep.M2;

@@ -12,7 +12,7 @@ use Rattle.account.specs.Account.{opened, account}
 use Rattle.account.specs.Claim.{accountDelay}
 use Rattle.wire.specs.Words.{floatAt, wordBytes, wordOf, Ran}
 use Rattle.byte_config.specs.ByteConfig.{configOf}
-use Rattle.report.specs.Report.{reportBytes, Tells}
+use Rattle.report.specs.Report.{reportBytes, Tells, TellsFinite}
 use Rattle.probe_report.specs.ProbeReport.{ofAccount}
 
 -- "Call: dt, rate, moment": the call at byte i
@@ -62,3 +62,7 @@ byteRun config calls output = runIf (sized config calls output) config calls out
 -- a run that answers 0 tells the account's delay: d its whole ticks, the bit after d its half tick
 abbrev pub TellsDelay : (config calls : List ℕ) → ℕ → List ℕ → Type 0
 TellsDelay config calls result output = result ≡ 0 → Tells output (accountDelay (account (opened (configOf config)) (callsOf calls)))
+
+-- and its floats are finite where it tells of a probe that is done by the integrated fit
+abbrev pub TellsModel : ℕ → List ℕ → Type 0
+TellsModel result output = result ≡ 0 → TellsFinite output

@@ -1,39 +1,22 @@
 -- The units of a report's bytes are those of the status that it tells of.
 use Prim.Native.Nat.{ℕ, _/_, _%_, _^_, _<_}
-use mathlib.Core.Path.{_≡_, refl, sym, ap, _∙_}
+use mathlib.Core.Path.{_≡_, refl, ap, _∙_}
 use mathlib.Core.Bool.{false}
-use mathlib.Core.List.{List, [], _∷_, _++_, map}
+use mathlib.Core.List.{List, _∷_, map}
 use native.Mathlib.Nat.{zero-lt-suc}
-use native.Mathlib.Omega.{arith}
 use lib.Dec.{eqb, lit<}
 use lib.ListN.{length}
 use Rattle.wire.specs.Words.{wordBytes, wordOf}
-use Rattle.wire.proofs.Bytes.{three-words, words-append}
 use Rattle.wire.proofs.Read.{word-read, float-read}
 use Rattle.account.specs.declared.IdentifyStatus.{IdentifyStatus}
 use Rattle.account.specs.declared.IdentifyStatus.the-variants.{Running, Done, Unexcited, Saturated}
 use Rattle.delay.specs.declared.RateModel.{RateModel}
 use Rattle.report.specs.declared.Report.{Report}
 use Rattle.report.specs.Report.{kindOf, floatsOf, fieldsOf, packed, reportBytes}
-use Rattle.report.proofs.Bytes.{kind-small, first-bits}
+use Rattle.report.proofs.Bytes.{first-small, kind-first, report-words}
 use Rattle.units.specs.declared.PlainUnits.the-variants.{Nothing}
 use Rattle.units.specs.Units.{unitsOf}
 use Rattle.byte_units.specs.ByteUnits.{isDone, reportUnits, statusUnits, FloatsFit}
-
--- ---- the first word
-first-small : (r : Report) → packed 0 (fieldsOf r) / 2 ^ 64 < 2 ^ 32
-first-small r = omega (arith, kind-small (r .status), first-bits r)
-
-kind-first : (r : Report) → packed 0 (fieldsOf r) / 2 ^ 64 / 2 ^ 30 ≡ kindOf (r .status)
-kind-first r = omega (arith, kind-small (r .status), first-bits r)
-
--- ---- the whole
-report-words : (r : Report) → reportBytes r ≡ wordBytes (packed 0 (fieldsOf r) / 2 ^ 64 ∷ packed 0 (fieldsOf r) / 2 ^ 32 % 2 ^ 32 ∷ packed 0 (fieldsOf r) % 2 ^ 32 ∷ map wordOf (floatsOf (r .status)))
-unfolding reportBytes
-report-words r =
-    let n = packed 0 (fieldsOf r) in
-    ap (λ (l : List ℕ). l ++ wordBytes (map wordOf (floatsOf (r .status)))) (three-words n)
-    ∙ sym (words-append (n / 2 ^ 64 ∷ n / 2 ^ 32 % 2 ^ 32 ∷ n % 2 ^ 32 ∷ []) (map wordOf (floatsOf (r .status))))
 
 -- a first word whose kind is not 1
 not-done : (ws : List ℕ) (a n : ℕ) → a < 2 ^ 32 → a / 2 ^ 30 ≡ n → eqb n 1 ≡ false → reportUnits (wordBytes (a ∷ ws)) ≡ Nothing

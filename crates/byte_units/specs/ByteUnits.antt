@@ -1,23 +1,23 @@
 -- The plain units of a report as bytes: 36 bytes in, 12 out.
-use Prim.Native.Nat.{ℕ, _/_, _^_}
+use Prim.Native.Nat.{ℕ}
 use mathlib.Core.Path.{_≡_}
 use mathlib.Core.Bool.{Bool, true, false, _&&_, cond}
 use mathlib.Core.List.{List, [], _∷_}
 use lib.Dec.{T, eqb}
 use lib.ListN.{length}
 use lib.Ieee.{Float, binary32, neg, fits}
-use Rattle.wire.specs.Words.{wordAt, floatAt, wordBytes, wordOf, Ran}
+use Rattle.wire.specs.Words.{floatAt, wordBytes, wordOf, Ran}
 use Rattle.account.specs.declared.IdentifyStatus.{IdentifyStatus}
 use Rattle.account.specs.declared.IdentifyStatus.the-variants.{Running, Done, Unexcited, Saturated}
 use Rattle.report.specs.declared.Report.{Report}
-use Rattle.report.specs.Report.{reportBytes}
+use Rattle.report.specs.Report.{reportBytes, kindRead}
 use Rattle.units.specs.declared.PlainUnits.{PlainUnits}
 use Rattle.units.specs.declared.PlainUnits.the-variants.{Nothing, Both}
 use Rattle.units.specs.Units.{effectOf, unitsAt, unitsOf}
 
 -- "kind 2 (0 running, 1 done, ..)": the first two bits
 unfoldable pub isDone : List ℕ → Bool
-isDone report = eqb (wordAt report 0 / 2 ^ 30) 1
+isDone report = eqb (kindRead report) 1
 
 -- the second rate weight stands at byte 16, the moment weights from byte 20 on, dt_s at byte 32
 unfoldable pub reportUnits : List ℕ → PlainUnits

@@ -1,6 +1,6 @@
 // The functions that the static library exports.
 ghost use mathlib.Core.Path.{_≡_};
-ghost use Rattle.byte_run.specs.ByteRun.{byteRun, TellsDelay};
+ghost use Rattle.byte_run.specs.ByteRun.{byteRun, TellsDelay, TellsModel};
 ghost use Rattle.byte_units.specs.ByteUnits.{byteUnits, TellsUnits};
 
 // A run from a configuration of 24 bytes over calls of 12 bytes each: the report, and then one word a call.
@@ -10,6 +10,7 @@ pub extern "C" fn identify_byte_run(config: &[u8], calls: &[u8], output: &mut [u
     ensures result { λ r. ⌜ r ≡ byteRun (now (config .entry)) (now (calls .entry)) (now (output .entry)) .result ⌝ }
     ensures output { λ r. ⌜ now (output .exit) ≡ byteRun (now (config .entry)) (now (calls .entry)) (now (output .entry)) .output ⌝ }
     ensures delay { λ r. ⌜ TellsDelay (now (config .entry)) (now (calls .entry)) r (now (output .exit)) ⌝ }
+    ensures model { λ r. ⌜ TellsModel r (now (output .exit)) ⌝ }
 {
     byte_run::byte_run(config, calls, output)
 }

@@ -37,7 +37,7 @@ module _ (K : ℕ) where
   over m e lo (fin false n d) p t =
       transfer lo (m * up e) K (down e) (n * up d) (m * up e) (down d) (down e) (down-pos d) (down-pos e) (sym (p .1)) refl (leq (n * up d * down e) (m * up e * down d) t)
 
-  under : (m : ℕ) (e : ℤ) (hi : ℕ) (y : Float) → HasValue y false hi K → T (le (fin false m e) y) → m * up e * K ≤ hi * down e
+  pub under : (m : ℕ) (e : ℤ) (hi : ℕ) (y : Float) → HasValue y false hi K → T (le (fin false m e) y) → m * up e * K ≤ hi * down e
   unfolding le
   under m e hi nan p t = absurd p
   under m e hi (inf s) p t = absurd p
@@ -45,7 +45,7 @@ module _ (K : ℕ) where
   under m e hi (fin false n d) p t =
       transfer (m * up e) hi (down e) K (m * up e) (n * up d) (down e) (down d) (down-pos e) (down-pos d) refl (sym (p .1)) (leq (m * up e * down d) (n * up d * down e) t)
 
-  no-inf : (hi : ℕ) (y : Float) → HasValue y false hi K → T (le (inf false) y) → ⊥
+  pub no-inf : (hi : ℕ) (y : Float) → HasValue y false hi K → T (le (inf false) y) → ⊥
   unfolding le
   no-inf hi nan p t = p
   no-inf hi (inf s) p t = p

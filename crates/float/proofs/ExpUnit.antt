@@ -86,7 +86,7 @@ nothing-small : Small false (expOf (fin false 0 (pos 0)))
 unfolding expOf lt ofInt div mul add horner squared narrowed ofBits
 nothing-small = (refl, lit≤ tt, lit≤ tt)
 
-zero-exponent : (e : ℤ) → up e * down e ≡ 1 → e ≡ pos 0
+pub zero-exponent : (e : ℤ) → up e * down e ≡ 1 → e ≡ pos 0
 zero-exponent (pos zero) h = refl
 zero-exponent (pos (suc k)) h = absurd (let r : ⊥ = omega (arith, h, pow-suc 2 k, pow-pos k) in r)
 zero-exponent (negsuc k) h = absurd (let r : ⊥ = omega (arith, h, pow-suc 2 k, pow-pos k) in r)
@@ -100,7 +100,7 @@ above m e h =
     let p : b < a = omega (arith, mul-pos (zero-lt-suc m) (up-pos e)) in
     rw (le-ltb a b (omega arith), ne-eqb a b (λ (i : a ≡ b). omega arith)) at h
 
-exp-small : (x : Float) → T (fits binary32 x) → T (le x zero32) → Small false (expOf x)
+pub exp-small : (x : Float) → T (fits binary32 x) → T (le x zero32) → Small false (expOf x)
 unfolding fits le ofBits
 exp-small nan f h = absurd h
 exp-small (inf true) f h = infinite-small

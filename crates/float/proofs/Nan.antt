@@ -5,7 +5,7 @@ use Prim.Native.Nat.{ℕ, _*_, _%_, _≤_, _<_}
 use borrow.Author.Tests.{lt-ltb, le-ltb}
 use lib.Dec.{T}
 use lib.Ieee.{Float, Format, nan, inf, fin, hid, ones, top, ofBits, nanBits, isNan, ne}
-use lib.Ieee.Bits.{nanBits-is, nanBits-above}
+use lib.Ieee.Bits.{nanBits-is, nanBits-above, is-false}
 use lib.Ieee.Compare.{differs-from-itself, nan-differs}
 
 pub is-nan : (x : Float) → ne x x ≡ true → x ≡ nan
@@ -16,6 +16,14 @@ unfolding isNan
 no-nan nan e = absurd (true≢false (sym nan-differs ∙ e))
 no-nan (inf s) e = tt
 no-nan (fin s m k) e = tt
+
+-- so the test that a program makes tells it
+pub differs : (x : Float) → ne x x ≡ isNan x
+differs x = go (ne x x) refl
+  where
+    go : (b : Bool) → ne x x ≡ b → ne x x ≡ isNan x
+    go true e = subst (λ (y : Float). ne y y ≡ isNan y) (sym (is-nan x e)) (unfold isNan in nan-differs)
+    go false e = e ∙ sym (is-false (isNan x) (no-nan x e))
 
 only-nan : (x : Float) → isNan x ≡ true → x ≡ nan
 unfolding isNan

@@ -3,7 +3,7 @@ ghost use mathlib.Core.Path.{_≡_};
 ghost use mathlib.Core.Logic.{_⊎_};
 ghost use Prim.Native.Nat.{_+_, _*_, _^_, _≤_, _<_, min as minimum};
 ghost use lib.Dec.{T};
-ghost use lib.Ieee.{nan, binary32, binary64, minus, ofBits, ofInt, toBits, units, round, le};
+ghost use lib.Ieee.{nan, binary32, binary64, minus, ofBits, ofInt, toBits, units, round, le, isNan};
 ghost use lib.Ieee.Nearest.{closest};
 ghost use lib.Ieee.Positive.{positive};
 ghost use Rattle.float.specs.Values.{zero32, finite, maxZero, least};
@@ -26,6 +26,18 @@ pub fn is_finite(x: f32) -> bool
 {
     let infinity: f32 = 1.0 / 0.0;
     (-infinity < x) & (x < infinity)
+}
+
+pub fn is_nan(x: f32) -> bool
+    ensures { λ r. ⌜ r ≡ isNan x ⌝ }
+{
+    x != x
+}
+
+pub fn is_nan_f64(x: f64) -> bool
+    ensures { λ r. ⌜ r ≡ isNan x ⌝ }
+{
+    x != x
 }
 
 // v if v > 0, else +0, for a NaN too.

@@ -1,3 +1,4 @@
 pub mod Below
 pub mod Accumulators
 pub mod Window
+pub mod Examples

@@ -1,8 +1,8 @@
 -- One gain fit: 01, "The integrated fit and its refinement". Place i of a series is tick 11 + i.
 use Prim.Native.Nat.{ℕ, zero, suc, _+_, _-_, _/_, _%_}
-use mathlib.Core.Bool.{Bool, true, false}
-use lib.Ieee.{Float, binary32, binary64, add, sub, mul, div, lt, ofBits}
-use Rattle.float.specs.Values.{zero64, one64, half64, maxZero}
+use mathlib.Core.Bool.{Bool, true, false, not, _&&_}
+use lib.Ieee.{Float, binary32, binary64, add, sub, mul, div, lt, isNan, ofBits}
+use Rattle.float.specs.Values.{zero64, one64, half64, finite, maxZero}
 use Rattle.float.specs.Narrow.{narrowed}
 use Rattle.float.specs.Series.{dotTo}
 use Rattle.gain.specs.declared.GainFit.{GainFit}
@@ -61,9 +61,9 @@ gainOf mm mc cc mt ct = div binary64 (sub binary64 (mul binary64 mt cc) (mul bin
 abbrev pub trimOf : (mm mc cc mt ct : Float) → Float
 trimOf mm mc cc mt ct = div binary64 (sub binary64 (mul binary64 mm ct) (mul binary64 mc mt)) (det mm mc cc)
 
--- "residual = max(tt - gain·mt - trim·ct, 0)"
-abbrev pub residualOf : (gain trim mt ct tt : Float) → Float
-residualOf gain trim mt ct tt = maxZero binary64 (sub binary64 (sub binary64 tt (mul binary64 gain mt)) (mul binary64 trim ct))
+-- "tt - gain·mt - trim·ct", the difference before max
+abbrev pub differenceOf : (gain trim mt ct tt : Float) → Float
+differenceOf gain trim mt ct tt = sub binary64 (sub binary64 tt (mul binary64 gain mt)) (mul binary64 trim ct)
 
 -- 2^-52
 abbrev pub epsilon : Float
@@ -73,15 +73,24 @@ epsilon = ofBits binary64 0x3cb0_0000_0000_0000
 abbrev pub varies : (mm mc cc : Float) → Bool
 varies mm mc cc = lt (mul binary64 (mul binary64 epsilon mm) cc) (det mm mc cc)
 
-abbrev pub fitIf : Bool → Float → Float → GainFit
-fitIf true gain residual = Fit gain residual
-fitIf false gain residual = Nothing
+abbrev pub fitIf : Bool → GainFit → GainFit
+fitIf true fit = fit
+fitIf false fit = Nothing
 
--- "gain and residual narrowed"
+-- 02, four: "A gain fit counts as none if that difference is NaN or its narrowed gain is not finite."
+abbrev pub isSound : (gain difference : Float) → Bool
+isSound gain difference = not (isNan difference) && finite (narrowed gain)
+
+-- "residual = max(.., 0); gain and residual narrowed"
+unfoldable pub soundFit : (gain difference : Float) → GainFit
+soundFit gain difference = fitIf (isSound gain difference) (Fit (narrowed gain) (narrowed (maxZero binary64 difference)))
+
+-- the fit of the six sums, or none
 unfoldable pub solved : (mm mc cc mt ct tt : Float) → GainFit
 solved mm mc cc mt ct tt =
-    fitIf (varies mm mc cc) (narrowed (gainOf mm mc cc mt ct))
-    (narrowed (residualOf (gainOf mm mc cc mt ct) (trimOf mm mc cc mt ct) mt ct tt))
+    let gain = gainOf mm mc cc mt ct in
+    let trim = trimOf mm mc cc mt ct in
+    fitIf (varies mm mc cc) (soundFit gain (differenceOf gain trim mt ct tt))
 
 -- "Six sums mm, mc, cc, mt, ct, tt" of the first n places of three series, solved
 unfoldable pub fitted : (m c t : ℕ → Float) → ℕ → GainFit

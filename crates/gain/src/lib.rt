@@ -4,7 +4,7 @@ ghost use Prim.Native.Nat.{_-_, _≤_, min};
 ghost use lib.Ieee.{binary32, binary64, add, sub, mul};
 ghost use Rattle.float.specs.Values.{one32, one64};
 ghost use Rattle.float.specs.Series.{at, dotTo, fill};
-ghost use Rattle.gain.specs.Gain.{firstTick, blend as blendOf, change, through, solved};
+ghost use Rattle.gain.specs.Gain.{firstTick, blend as blendOf, change, through, soundFit, solved};
 ghost use Rattle.gain.specs.Prepared.{series, ticksOf, Prepared};
 
 // One gain fit: the gain and the residual, or no fit.
@@ -137,6 +137,19 @@ pub fn prepare(
 
 // ---- the solution
 
+// A gain and a difference before max as a fit, narrowed. None where the difference is NaN or the narrowed gain is not finite.
+fn sound_fit(gain: f64, difference: f64) -> GainFit
+    ensures { λ r. ⌜ r ≡ soundFit gain difference ⌝ }
+{
+    let residual = float::max_zero_f64(difference);
+    let narrow_gain = float::narrow(gain);
+    let narrow_residual = float::narrow(residual);
+    if !float::is_nan_f64(difference) & float::is_finite(narrow_gain) {
+        return GainFit::Fit(narrow_gain, narrow_residual);
+    }
+    GainFit::Nothing
+}
+
 // The gain and the residual of the six sums.
 pub fn solve(mm: f64, mc: f64, cc: f64, mt: f64, ct: f64, tt: f64) -> GainFit
     ensures { λ r. ⌜ r ≡ solved mm mc cc mt ct tt ⌝ }
@@ -145,9 +158,7 @@ pub fn solve(mm: f64, mc: f64, cc: f64, mt: f64, ct: f64, tt: f64) -> GainFit
     if det > 2.220446049250313e-16 * mm * cc {
         let gain = (mt * cc - mc * ct) / det;
         let trim = (mm * ct - mc * mt) / det;
-        let residual = float::max_zero_f64(tt - gain * mt - trim * ct);
-        GainFit::Fit(float::narrow(gain), float::narrow(residual))
-    } else {
-        GainFit::Nothing
+        return sound_fit(gain, tt - gain * mt - trim * ct);
     }
+    GainFit::Nothing
 }

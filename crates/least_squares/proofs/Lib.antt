@@ -1,1 +1,2 @@
 pub mod Diagonals
+pub mod Examples

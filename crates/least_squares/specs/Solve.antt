@@ -1,9 +1,9 @@
 -- One delay's least squares, from its sums: 01, "The recorded fit".
 use Prim.Native.Nat.{ℕ, zero, suc, _<_}
 use mathlib.Core.Path.{_≡_}
-use mathlib.Core.Bool.{Bool, true, false, _&&_}
+use mathlib.Core.Bool.{Bool, true, false, not, _&&_}
 use mathlib.Core.List.{List}
-use lib.Ieee.{Float, binary32, sub, lt}
+use lib.Ieee.{Float, binary32, sub, lt, isNan}
 use Rattle.float.specs.Values.{zero32, finite, maxZero}
 use Rattle.float.specs.Series.{at, dotTo}
 use Rattle.least_squares.specs.declared.Sums.{Sums}
@@ -17,9 +17,9 @@ use Rattle.cholesky.specs.ColumnOrder.{testedDiagonal}
 unfoldable pub dot : List Float → List Float → Float
 dot x y = dotTo binary32 (at x) (at y) 6
 
--- "Residual = max(sum of squared targets - solution·projected, 0)"
-unfoldable pub residualOf : Float → List Float → List Float → Float
-residualOf squared solution projected = maxZero binary32 (sub binary32 squared (dot solution projected))
+-- "sum of squared targets - solution·projected", the difference before max
+unfoldable pub differenceOf : Float → List Float → List Float → Float
+differenceOf squared solution projected = sub binary32 squared (dot solution projected)
 
 -- the first n entries are finite
 unfoldable pub allFinite : List Float → ℕ → Bool
@@ -34,14 +34,17 @@ abbrev pub fitIf : Bool → Solution → Solved
 fitIf true s = Fit s
 fitIf false s = NoFit
 
--- "a solution or residual not finite is no fit"
+-- "Residual = max(.., 0); a solution or residual not finite is no fit"
+-- 02, four: "a recorded fit whose difference before max is NaN counts as none"
 unfoldable pub kept : List Float → Float → Solved
-kept s r = fitIf (allFinite s 6 && finite r) (solutionOf s r)
+kept s difference =
+    let r = maxZero binary32 difference in
+    fitIf (allFinite s 6 && finite r && not (isNan difference)) (solutionOf s r)
 
 -- the solution of L Lᵀ s = b, where L's diagonals were above 0
 unfoldable pub solveIf : Bool → List Float → List Float → Float → Solved
 solveIf false l b squared = NoFit
-solveIf true l b squared = let s = backward l (forward l b) in kept s (residualOf squared s b)
+solveIf true l b squared = let s = backward l (forward l b) in kept s (differenceOf squared s b)
 
 unfoldable pub solveWith : List Float → List Float → List Float → Float → Solved
 solveWith l a b squared = solveIf (above a l 6) l b squared

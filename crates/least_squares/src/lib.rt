@@ -46,11 +46,12 @@ fn all_finite(s: &[f32; 6]) -> bool
     ok
 }
 
-// The solution with its residual, unless one of them is not finite.
-fn fit_if_finite(s: &[f32; 6], residual: f32) -> Solved
-    ensures { λ r. ⌜ r ≡ kept (now (s .entry)) residual ⌝ }
+// The solution with its residual, the difference where that is above 0. No fit where one of them is not finite or the difference is NaN.
+fn fit_if_finite(s: &[f32; 6], difference: f32) -> Solved
+    ensures { λ r. ⌜ r ≡ kept (now (s .entry)) difference ⌝ }
 {
-    if all_finite(s) & float::is_finite(residual) {
+    let residual = float::max_zero(difference);
+    if all_finite(s) & float::is_finite(residual) & !float::is_nan(difference) {
         return Solved::Fit(Solution {
             c0: s[0],
             c1: s[1],
@@ -65,7 +66,7 @@ fn fit_if_finite(s: &[f32; 6], residual: f32) -> Solved
 }
 
 impl Sums {
-    // The least-squares solution and its residual. No fit where the normal equations do not factor or a value is not finite.
+    // The least-squares solution and its residual. No fit where the normal equations do not factor, a value is not finite, or the difference that is left is NaN.
     pub fn solve(self) -> Solved
         ensures { λ r. ⌜ IsSolved self r ⌝ }
     {
@@ -75,8 +76,8 @@ impl Sums {
         if cholesky::diagonals_above_zero(&normal, &l) {
             let z = cholesky::forward_solved(&l, &projected);
             let s = cholesky::backward_solved(&l, &z);
-            let unexplained = self.target_squared - dot_product(&s, &projected);
-            return fit_if_finite(&s, float::max_zero(unexplained));
+            let difference = self.target_squared - dot_product(&s, &projected);
+            return fit_if_finite(&s, difference);
         }
         Solved::NoFit
     }

@@ -1,12 +1,12 @@
 -- A report's bytes: 36 of them, nine words one after another, the delay in the first.
 use Prim.Native.Nat.{ℕ, _+_, _*_, _/_, _%_, _^_, _≤_, _<_}
-use mathlib.Core.Path.{_≡_, refl}
-use mathlib.Core.List.{List, _++_, map}
+use mathlib.Core.Path.{_≡_, refl, sym, ap, _∙_}
+use mathlib.Core.List.{List, [], _∷_, _++_, map}
 use native.Mathlib.Omega.{arith}
 use lib.Dec.{lit<}
 use lib.ListN.{length, length-append, length-map}
 use Rattle.wire.specs.Words.{bytesOf, wordBytes, wordOf, writtenAt, writtenWithin}
-use Rattle.wire.proofs.Bytes.{length-bytes, length-words, three-words}
+use Rattle.wire.proofs.Bytes.{length-bytes, length-words, three-words, words-append}
 use Rattle.wire.proofs.Written.{within, written-next, three-written}
 use Rattle.account.specs.declared.IdentifyStatus.{IdentifyStatus}
 use Rattle.account.specs.declared.IdentifyStatus.the-variants.{Running, Done, Unexcited, Saturated}
@@ -22,7 +22,7 @@ kind-small (Done m) = lit< tt
 kind-small Unexcited = lit< tt
 kind-small Saturated = lit< tt
 
-six-floats : (s : IdentifyStatus) → length (floatsOf s) ≡ 6
+pub six-floats : (s : IdentifyStatus) → length (floatsOf s) ≡ 6
 unfolding floatsOf
 six-floats (Running e) = refl
 six-floats (Done m) = refl
@@ -52,6 +52,20 @@ pub first-bits : (r : Report) → packed 0 (fieldsOf r) / 2 ^ 64
     ≡ kindOf (r .status) * 2 ^ 30 + wholeTicks (delayOf (r .status)) % 16 * 2 ^ 26 + halfTick (delayOf (r .status)) * 2 ^ 25 + r .ticks % 2 ^ 25 / 2
 unfolding packed fieldsOf
 first-bits r = omega (arith, kind-small (r .status))
+
+pub first-small : (r : Report) → packed 0 (fieldsOf r) / 2 ^ 64 < 2 ^ 32
+first-small r = omega (arith, kind-small (r .status), first-bits r)
+
+pub kind-first : (r : Report) → packed 0 (fieldsOf r) / 2 ^ 64 / 2 ^ 30 ≡ kindOf (r .status)
+kind-first r = omega (arith, kind-small (r .status), first-bits r)
+
+-- the nine words
+pub report-words : (r : Report) → reportBytes r ≡ wordBytes (packed 0 (fieldsOf r) / 2 ^ 64 ∷ packed 0 (fieldsOf r) / 2 ^ 32 % 2 ^ 32 ∷ packed 0 (fieldsOf r) % 2 ^ 32 ∷ map wordOf (floatsOf (r .status)))
+unfolding reportBytes
+report-words r =
+    let n = packed 0 (fieldsOf r) in
+    ap (λ (l : List ℕ). l ++ wordBytes (map wordOf (floatsOf (r .status)))) (three-words n)
+    ∙ sym (words-append (n / 2 ^ 64 ∷ n / 2 ^ 32 % 2 ^ 32 ∷ n % 2 ^ 32 ∷ []) (map wordOf (floatsOf (r .status))))
 
 -- ---- the delay in its first byte
 first-byte : (r : Report) → packed 0 (fieldsOf r) / 256 ^ 11 % 256 ≡ kindOf (r .status) * 64 + wholeTicks (delayOf (r .status)) % 16 * 4 + halfTick (delayOf (r .status)) * 2

@@ -1,11 +1,12 @@
 -- The report's 36 bytes: 01, "The report".
-use Prim.Native.Nat.{ℕ, _+_, _*_, _/_, _%_, _^_}
+use Prim.Native.Nat.{ℕ, _+_, _*_, _/_, _%_, _^_, _≤_, _<_}
 use mathlib.Core.Path.{_≡_}
+use mathlib.Core.Bool.{true}
 use mathlib.Core.List.{List, [], _∷_, _++_, map}
 use lib.ListN.{getD}
 use lib.Ieee.{Float}
-use Rattle.float.specs.Values.{zero32}
-use Rattle.wire.specs.Words.{bytesOf, wordBytes, wordOf}
+use Rattle.float.specs.Values.{zero32, finite}
+use Rattle.wire.specs.Words.{bytesOf, wordBytes, wordOf, wordAt, floatAt}
 use Rattle.delay.specs.declared.Delay.{Delay}
 use Rattle.delay.specs.HalfTicks.{wholeTicks, halfTick}
 use Rattle.account.specs.declared.IdentifyStatus.{IdentifyStatus}
@@ -66,3 +67,14 @@ halfRead bytes = getD bytes 0 0 / 2 % 2
 -- both are those of a delay
 abbrev pub Tells : List ℕ → Delay → Type 0
 Tells bytes delay = (dRead bytes ≡ wholeTicks delay) × (halfRead bytes ≡ halfTick delay)
+
+-- what a reader finds of its kind, and of its gain fits
+abbrev pub kindRead : List ℕ → ℕ
+kindRead bytes = wordAt bytes 0 / 2 ^ 30
+
+abbrev pub fitsRead : List ℕ → ℕ
+fitsRead bytes = wordAt bytes 8 / 8 % 2 ^ 12
+
+-- 02, four, "An integrated model then holds finite numbers only": where it is done and tells of gain fits, its six floats are finite
+abbrev pub TellsFinite : List ℕ → Type 0
+TellsFinite bytes = kindRead bytes ≡ 1 → 1 ≤ fitsRead bytes → (k : ℕ) → k < 6 → finite (floatAt bytes (12 + 4 * k)) ≡ true

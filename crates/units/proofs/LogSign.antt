@@ -10,36 +10,14 @@ use borrow.Author.Tests.{lt-ltb, le-ltb, leb-true, leb-false}
 use lib.Dec.{T, ltb, leb, eqb, ltb→lt, leb→le, lit<, lit≤}
 use lib.Pow.{pow-pos, pow-lt, pow-mono}
 use lib.IntN.{ℤ, pos, negsuc, predℤ}
-use lib.Ieee.{Float, Format, nan, inf, fin, binary32, binary64, unlike, up, down, ofBits, ofInt, odd, units, round, neg, sum, add, sub, mul, div, prec, emax, low, size, fits}
+use lib.Ieee.{Float, nan, inf, fin, binary32, binary64, unlike, up, down, ofBits, ofInt, round, neg, sum, add, sub, mul, div, low, size, fits}
 use lib.Ieee.Digits.{size-lt, size-le, size-reaches}
-use lib.Ieee.Fits.{down-pos, round-is, and-l, and-r}
-use lib.Ieee.Order.{kept, drop}
+use lib.Ieee.Fits.{down-pos, and-l, and-r}
 use Rattle.float.specs.Values.{one64}
 use Rattle.float.specs.Narrow.{narrowed}
 use Rattle.float.specs.Log.{ln2, two64, logSum, zOf, logPart, logFrom, logSplit, logAt, wideLog, logOf}
 use Rattle.float.proofs.Between.{In, round-in, mul-in, div-in, add-in}
-
-abbrev pub Signed : Bool → Float → Type 0
-Signed s nan = ⊥
-Signed s (inf t) = t ≡ s
-Signed s (fin t m e) = t ≡ s
-
--- rounding keeps the sign
-odd-signed : (d : ℕ) (s : Bool) (q k l : ℕ) → Signed s (odd d s q k l)
-unfolding odd
-odd-signed d s zero k l = refl
-odd-signed d s (suc q) k l = refl
-
-units-signed : (f : Format) (s : Bool) (q k : ℕ) → Signed s (units f s q k)
-unfolding units
-units-signed f s q k = go (ltb (q * 2 ^ k) (2 ^ (low f + suc (emax f))))
-  where
-    go : (b : Bool) → Signed s (cond b (odd (suc (prec f)) s q k (low f)) (inf s))
-    go true = odd-signed (suc (prec f)) s q k (low f)
-    go false = refl
-
-pub round-signed : (f : Format) (s : Bool) (a c : ℕ) → Signed s (round f s a c)
-round-signed f s a c = subst (Signed s) (sym (round-is f s a c)) (units-signed f s (kept (prec f) (a * 2 ^ low f) c) (drop (prec f) (a * 2 ^ low f) c))
+use Rattle.float.proofs.Signed.{Signed, round-signed}
 
 wider : (s : Bool) (lo hi top : ℕ) (x : Float) → hi ≤ top → In 30 s lo hi x → In 30 s lo top x
 wider s lo hi top nan h p = p
@@ -195,7 +173,7 @@ from-zero : (m : Float) → In 30 false 805306368 1073741760 m → Signed true (
 unfolding logFrom
 from-zero m p = rw nothing (minus-only 717225984 (logPart (zOf m)) (part-in true 32 64 4 (zOf m) (lit< tt) (lit< tt) (lit≤ tt) (lit≤ tt) (z-below m p)))
 
-pub narrowed-signed : (s : Bool) (x : Float) → Signed s x → Signed s (narrowed x)
+narrowed-signed : (s : Bool) (x : Float) → Signed s x → Signed s (narrowed x)
 unfolding narrowed
 narrowed-signed s nan p = p
 narrowed-signed s (inf t) p = p

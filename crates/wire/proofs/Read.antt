@@ -5,12 +5,12 @@ use mathlib.Core.List.{List, [], _∷_, _++_}
 use native.Mathlib.Nat.{div-one, div-add-mod', div-div-eq-div-mul}
 use native.Mathlib.Omega.{arith}
 use lib.Dec.{T}
-use lib.ListN.{length, getD}
+use lib.ListN.{length, getD, List·getD-append}
 use lib.Seq.{getD-append-add}
 use lib.Ieee.{Float, binary32, ofBits, fits}
 use lib.Ieee.Bits.{ofBits-toBits, toBits-lt}
 use Rattle.wire.specs.Words.{bytesOf, wordBytes, wordOf, wordAt, floatAt}
-use Rattle.wire.proofs.Bytes.{length-bytes}
+use Rattle.wire.proofs.Bytes.{length-bytes, length-words}
 
 -- four bytes joined
 abbrev joined : ℕ → ℕ
@@ -49,3 +49,19 @@ word-read (w ∷ ws) (suc k) h s =
 pub float-read : (ws : List ℕ) (k : ℕ) (x : Float) → T (fits binary32 x) → k < length ws → getD ws k 0 ≡ wordOf x → floatAt (wordBytes ws) (4 * k) ≡ x
 unfolding floatAt
 float-read ws k x f h e = ap (ofBits binary32) (word-read ws k h (rw e (toBits-lt binary32 x f)) ∙ e) ∙ ofBits-toBits binary32 x f
+
+-- ---- whatever stands behind them
+word-before : (bytes more : List ℕ) (i : ℕ) → i + 3 < length bytes → wordAt (bytes ++ more) i ≡ wordAt bytes i
+unfolding wordAt
+word-before bytes more i h =
+    rw (List·getD-append bytes more 0 i (omega arith), List·getD-append bytes more 0 (i + 1) (omega arith), List·getD-append bytes more 0 (i + 2) (omega arith), List·getD-append bytes more 0 (i + 3) (omega arith))
+
+before : (ws more : List ℕ) (k : ℕ) → k < length ws → wordAt (wordBytes ws ++ more) (4 * k) ≡ wordAt (wordBytes ws) (4 * k)
+before ws more k h = word-before (wordBytes ws) more (4 * k) (rw (length-words ws) (omega arith))
+
+pub word-read-before : (ws more : List ℕ) (k : ℕ) → k < length ws → getD ws k 0 < 2 ^ 32 → wordAt (wordBytes ws ++ more) (4 * k) ≡ getD ws k 0
+word-read-before ws more k h s = before ws more k h ∙ word-read ws k h s
+
+pub float-read-before : (ws more : List ℕ) (k : ℕ) (x : Float) → T (fits binary32 x) → k < length ws → getD ws k 0 ≡ wordOf x → floatAt (wordBytes ws ++ more) (4 * k) ≡ x
+unfolding floatAt
+float-read-before ws more k x f h e = ap (ofBits binary32) (before ws more k h) ∙ float-read ws k x f h e

@@ -2,7 +2,7 @@
 use mathlib.Core.Path.{refl, sym, _∙_}
 use mathlib.Core.Bool.{true≢false}
 use borrow.Author.Needs.{needs}
-use Rattle.least_squares.specs.Solve.{dot, residualOf, solveIf, solveWith, solve}
+use Rattle.least_squares.specs.Solve.{dot, differenceOf, solveIf, solveWith, solve}
 use Rattle.least_squares.proofs.Diagonals.{fails}
 use Rattle.least_squares.proofs.Sums.solve.Statement.{statement}
 use Rattle.least_squares.proofs.Sums.solve.Tie as tie
@@ -22,16 +22,13 @@ backward-solved-requires c κs = search needs
 dot-product-requires : tie.Need-dot-product-requires
 dot-product-requires c κs = search needs
 
-max-zero-requires : tie.Need-max-zero-requires
-max-zero-requires c κs = search needs
-
 fit-if-finite-requires : tie.Need-fit-if-finite-requires
 fit-if-finite-requires c κs = search needs
 
 returns : tie.Need-returns
-unfolding solve solveWith solveIf residualOf
+unfolding solve solveWith solveIf differenceOf
 returns c =
-    let dot = c .before .before .before .before in
+    let dot = c .before .before .before in
     let back = dot .before .before .before in
     let forth = back .before .before .before in
     let taken = forth .before .before .before in
@@ -47,7 +44,6 @@ returns c =
             ← (forth .forward-solved .ensures),
             ← (back .backward-solved .ensures),
             ← (dot .dot-product .ensures),
-            ← (c .before .max-zero .ensures),
           )
           (c .fit-if-finite .ensures);
       no-fit = λ j h e. absurd (true≢false (sym (taken .if1 .taken) ∙ above ∙ fails _ 6 j h e));
@@ -69,7 +65,6 @@ solve-spec =
     forward-solved-requires
     backward-solved-requires
     dot-product-requires
-    max-zero-requires
     fit-if-finite-requires
     returns
     returns-2)

@@ -1,0 +1,4 @@
+pub mod Multiples
+pub mod Trials
+pub mod Poles
+pub mod Model

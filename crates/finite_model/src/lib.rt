@@ -1,0 +1,1 @@
+// What an integrated model holds: finite numbers only. Theorems over definitions, and no function.
