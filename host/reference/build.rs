@@ -22,21 +22,33 @@ struct Change {
     to: &'static str,
 }
 
-/// All changes to identify.rs, besides the inner documentation at its head, which is dropped.
-const IDENTIFY_CHANGES: [Change; 10] = [
+/// All changes to identify.rs, besides the inner documentation at its head, which is dropped. They
+/// are made in order: a later one may change what an earlier one wrote.
+const IDENTIFY_CHANGES: [Change; 12] = [
     // The tests are not part of the checkout's source.
     Change {
         from: "#[cfg(test)]\nmod tests;\n",
         to: "",
     },
-    // 01's max(v, 0) for Rust's: +0 for -0 too.
+    // 01's max(v, 0) for Rust's: +0 for -0 too. The difference before it gets a name.
     Change {
-        from: "(self.target_squared - solution.dot(&self.projected)).max(0.0)",
-        to: "float::max_zero(self.target_squared - solution.dot(&self.projected))",
+        from: "        let residual = (self.target_squared - solution.dot(&self.projected)).max(0.0);\n",
+        to: "        let difference = self.target_squared - solution.dot(&self.projected);\n        let residual = float::max_zero(difference);\n",
     },
     Change {
-        from: "(stt - gain * smt - trim * sct).max(0.0)",
-        to: "float::max_zero_f64(stt - gain * smt - trim * sct)",
+        from: "    let residual = (stt - gain * smt - trim * sct).max(0.0);\n",
+        to: "    let difference = stt - gain * smt - trim * sct;\n    let residual = float::max_zero_f64(difference);\n",
+    },
+    // 02's request four: a recorded fit whose difference before max is NaN is none.
+    Change {
+        from: "        let residual = float::max_zero(difference);\n",
+        to: "        if access::tests_of_four() && difference.is_nan() {\n            return None;\n        }\n        let residual = float::max_zero(difference);\n",
+    },
+    // 02's request four: a gain fit whose difference before max is NaN, or whose narrowed gain is
+    // not finite, is none.
+    Change {
+        from: "    let residual = float::max_zero_f64(difference);\n",
+        to: "    if access::tests_of_four() && (difference.is_nan() || !float::narrow(gain).is_finite()) {\n        return None;\n    }\n    let residual = float::max_zero_f64(difference);\n",
     },
     // 01's narrowing for Rust's.
     Change {

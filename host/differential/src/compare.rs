@@ -60,20 +60,21 @@ pub struct Difference {
     pub found: Answers,
 }
 
+/// The reference's answer to a list, and what its byte run returns.
+pub fn reference_run(input: &Input) -> (Answer, Returned) {
+    let mut output = untouched(input.output_len);
+    let answer = checked_run(&input.config, &input.calls, &mut output);
+    let result = answer.result;
+    (answer, Returned { result, output })
+}
+
 /// The reference's answer, and the difference where the subject's return values or any byte of
 /// its outputs is another.
 pub fn compared(subject: Subject, input: &Input) -> (Answer, Option<Difference>) {
-    let Input {
-        config,
-        calls,
-        output_len,
-    } = input;
-    let mut output = untouched(*output_len);
-    let answer = checked_run(config, calls, &mut output);
-    let result = answer.result;
-    let expected = Answers::of(Returned { result, output }, plain_units);
-    let run = Returned::by(*output_len, |output| {
-        (subject.byte_run)(config, calls, output)
+    let (answer, run) = reference_run(input);
+    let expected = Answers::of(run, plain_units);
+    let run = Returned::by(input.output_len, |output| {
+        (subject.byte_run)(&input.config, &input.calls, output)
     });
     let found = Answers::of(run, subject.plain_units);
     let difference = (found != expected).then_some(Difference { expected, found });

@@ -1,6 +1,7 @@
 //! Compares a subject's byte run and plain units with the reference's, on many lists of calls and
-//! on reports of any bits.
+//! on reports of any bits; and the reference with itself before request four of 02.
 
+mod changed;
 mod compare;
 mod counts;
 mod exhaustive;
@@ -26,12 +27,14 @@ usage: differential [lists] [--seed S] [--count N] [--from N] [--family NAME]
        differential exhaustive
        differential last-tick
        differential units [--seed S] [--count N] [--from N]
+       differential changed [--seed S] [--count N] [--from N] [--family NAME]
 lists       N lists of seed S, from list number --from on; of one family alone where it is named
 exhaustive  every list of up to five calls over a small alphabet
 last-tick   one list of 16,777,219 calls
 units       the plain units of N reports of any bits, from report number --from on
-All take --subject library or --subject second. Without it lists go through the library where one
-was linked, else through the second program, and reports through both.";
+changed     how many lists the reference answers otherwise than before request four of document 02
+All but changed take --subject library or --subject second. Without it lists go through the library
+where one was linked, else through the second program, and reports through both.";
 
 struct Options {
     what: What,
@@ -48,6 +51,7 @@ enum What {
     Exhaustive,
     LastTick,
     Units,
+    Changed,
 }
 
 fn main() -> ExitCode {
@@ -92,6 +96,7 @@ fn options() -> Result<Options, String> {
             "exhaustive" => options.what = What::Exhaustive,
             "last-tick" => options.what = What::LastTick,
             "units" => options.what = What::Units,
+            "changed" => options.what = What::Changed,
             "--seed" => options.seed = number(&value()?)?,
             "--count" => options.count = number(&value()?)?,
             "--from" => options.from = number(&value()?)?,
@@ -136,20 +141,7 @@ fn run(options: &Options) -> bool {
                 "seed {seed}, {count} lists from number {from} on, {} against the reference",
                 subject.name
             );
-            let numbers = from..from + count;
-            let lists = numbers.map(|number| match options.family {
-                None => lists::list(seed, number),
-                Some(family) => lists::of_family(family, seed, number),
-            });
-            let inputs = lists.map(|list| {
-                let input = Input {
-                    config: list.config,
-                    calls: list.calls,
-                    output_len: list.output_len,
-                };
-                (list.family, input)
-            });
-            compare_all(subject, count, inputs)
+            compare_all(subject, count, inputs(options))
         }
         What::Exhaustive => {
             println!(
@@ -179,7 +171,38 @@ fn run(options: &Options) -> bool {
             );
             units::compare_all(&subjects, seed, from..from + count)
         }
+        What::Changed => {
+            println!(
+                "seed {seed}, {count} lists from number {from} on, the reference against itself \
+                 before request four"
+            );
+            changed::count_all(count, inputs(options));
+            true
+        }
     }
+}
+
+/// The lists that the options name, with their family.
+fn inputs(options: &Options) -> impl Iterator<Item = (&'static str, Input)> {
+    let Options {
+        seed,
+        from,
+        count,
+        family,
+        ..
+    } = *options;
+    (from..from + count).map(move |number| {
+        let list = match family {
+            None => lists::list(seed, number),
+            Some(family) => lists::of_family(family, seed, number),
+        };
+        let input = Input {
+            config: list.config,
+            calls: list.calls,
+            output_len: list.output_len,
+        };
+        (list.family, input)
+    })
 }
 
 fn compare_all(

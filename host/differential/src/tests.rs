@@ -1,4 +1,9 @@
-use crate::compare::{Input, compared};
+use reference::access::{self, Samples, before_four};
+use reference::byte_run::{byte_run, probe_run};
+use reference::checked::Answer;
+
+use crate::changed;
+use crate::compare::{Input, Returned, compared, reference_run};
 use crate::exhaustive;
 use crate::shrink::shrunk;
 use crate::subject::{SECOND, Subject};
@@ -152,15 +157,24 @@ fn a_wrong_half_tick_is_found() {
     }
 }
 
+/// Lists 0 to `count` of a seed in a family.
+fn of_family(name: &str, seed: u64, count: u64) -> impl Iterator<Item = Input> + use<> {
+    let family = lists::FAMILIES.iter().find(|family| family.name == name);
+    let family = family.expect("the family");
+    (0..count).map(move |number| {
+        let list = lists::of_family(family, seed, number);
+        Input {
+            config: list.config,
+            calls: list.calls,
+            output_len: list.output_len,
+        }
+    })
+}
+
 #[test]
 fn a_gain_of_0_wins_at_half_delays() {
-    let family = lists::FAMILIES
-        .iter()
-        .find(|family| family.name == "gain of 0")
-        .expect("the family");
     let mut seen = std::collections::BTreeMap::new();
-    for number in 0..400 {
-        let list = lists::of_family(family, 9, number);
+    for list in of_family("gain of 0", 9, 400) {
         let mut output = vec![0; list.output_len];
         assert_eq!(second::byte_run(&list.config, &list.calls, &mut output), 0);
         let half_ticks = 2 * (output[0] >> 2 & 0xf) + (output[0] >> 1 & 1);
@@ -172,6 +186,134 @@ fn a_gain_of_0_wins_at_half_delays() {
     let delays: Vec<u8> = seen.keys().copied().collect();
     assert_eq!(delays, [2, 3, 5, 7, 9, 11, 13, 15, 17, 19], "{seen:?}");
     assert!(seen.values().all(|count| *count >= 10), "{seen:?}");
+}
+
+/// The window that a list leaves.
+fn window(input: &Input) -> Samples {
+    let mut output = vec![0; input.output_len];
+    match probe_run(&input.config, &input.calls, &mut output) {
+        Ok(probe) => access::samples(probe.inner()),
+        Err(number) => panic!("refused by {number}"),
+    }
+}
+
+#[test]
+fn rates_beyond_f32_apart_are_stored_side_by_side() {
+    for input in of_family("rates beyond f32 apart", 10, 300) {
+        let rates = window(&input).rates;
+        let apart = |pair: &[f32]| (pair[1] - pair[0]).is_infinite();
+        assert!(rates.windows(2).any(apart), "{rates:?}");
+    }
+}
+
+/// How many lists of a family answer as asked, now and before request four.
+fn counted(name: &str, seed: u64, count: u64, asked: fn(&(Answer, Returned)) -> bool) -> [u64; 2] {
+    let mut counts = [0; 2];
+    for input in of_family(name, seed, count) {
+        let before = before_four(|| reference_run(&input));
+        for (count, answered) in counts.iter_mut().zip([reference_run(&input), before]) {
+            *count += u64::from(asked(&answered));
+        }
+    }
+    counts
+}
+
+#[test]
+fn rates_beyond_f32_apart_gave_weights_that_are_not_finite() {
+    let [now, before] = counted("rates beyond f32 apart", 10, 300, changed::not_finite);
+    assert_eq!(now, 0);
+    assert!(before >= 100, "{before} of 300");
+}
+
+#[test]
+fn gains_beyond_f32_gave_weights_that_are_not_finite() {
+    let [now, before] = counted("gain beyond f32", 10, 200, changed::not_finite);
+    assert_eq!(now, 0);
+    assert!(before >= 100, "{before} of 200");
+}
+
+#[test]
+fn recorded_errors_beyond_f32_are_nan_and_infinite() {
+    let differences = [f32::NAN, f32::INFINITY, f32::NEG_INFINITY].map(float::bits);
+    let mut lists = [0; 3];
+    for input in of_family("recorded error beyond f32", 10, 300) {
+        let sums = access::recorded_sums(&window(&input));
+        // Of the delays with a finite solution.
+        let found: Vec<u32> = sums
+            .iter()
+            .filter_map(|sums| sums.difference())
+            .filter(|(solution, _)| solution.iter().all(|value| value.is_finite()))
+            .map(|(_, difference)| float::bits(difference))
+            .collect();
+        for (count, difference) in lists.iter_mut().zip(differences) {
+            *count += u32::from(found.contains(&difference));
+        }
+    }
+    let [nan, infinite, minus_infinite] = lists;
+    assert!(
+        nan >= 100 && infinite >= 20 && minus_infinite >= 20,
+        "{lists:?} of 300"
+    );
+}
+
+/// The narrowed gains of a window, at each step and at every sixteenth pole, before request four.
+fn gains(samples: &Samples) -> Vec<f32> {
+    let dt_s = samples.duration_s / samples.len() as f32;
+    let mut gains = Vec::new();
+    for pole in access::lag_poles(dt_s).into_iter().step_by(16) {
+        let lagged = access::lag_through(&samples.moments, pole);
+        for step in 0..20 {
+            let fit = || access::fit_gain(&samples.rates, &lagged, step, access::carry(dt_s));
+            gains.extend(before_four(fit).map(|(gain, _)| gain));
+        }
+    }
+    gains
+}
+
+#[test]
+fn gains_beyond_f32_are_infinite_at_some_poles_and_steps() {
+    let [mut some, mut all] = [0; 2];
+    for input in of_family("gain beyond f32", 10, 200) {
+        let gains = gains(&window(&input));
+        let infinite = gains.iter().filter(|gain| gain.is_infinite()).count();
+        some += u32::from(infinite > 0);
+        all += u32::from(infinite == gains.len());
+    }
+    assert!(some >= 150 && all < 20, "{some} and {all} of 200");
+}
+
+#[test]
+fn searches_are_cut_short_in_each_round() {
+    let mut rounds = [0; 13];
+    for input in of_family("search cut short", 10, 300) {
+        let (answer, _) = reference_run(&input);
+        if answer.ending.done_by_integrated() {
+            rounds[(answer.gain_fits - 2_580) as usize / 2] += 1;
+        }
+    }
+    assert!(rounds[1..12].iter().all(|count| *count > 0), "{rounds:?}");
+    assert!(rounds[1..12].iter().sum::<u32>() >= 150, "{rounds:?}");
+}
+
+#[test]
+fn fits_before_request_four_are_found() {
+    /// The reference without the two tests.
+    fn before(config: &[u8], calls: &[u8], output: &mut [u8]) -> u32 {
+        before_four(|| byte_run(config, calls, output))
+    }
+    let subject = Subject {
+        byte_run: before,
+        ..SECOND
+    };
+    for family in [
+        "rates beyond f32 apart",
+        "recorded error beyond f32",
+        "gain beyond f32",
+        "search cut short",
+    ] {
+        let found = of_family(family, 11, 100).any(|input| differs(subject, &input));
+        assert!(found, "{family}");
+    }
 }
 
 #[test]

@@ -4,7 +4,8 @@
 use std::collections::BTreeMap;
 
 use lists::random::Random;
-use reference::access::{self, Class, DelaySums, RateModel, Samples, noted};
+use lists::{FAMILIES, List};
+use reference::access::{self, Class, DelaySums, RateModel, Samples, before_four, noted};
 use reference::byte_run::{calls_of, config_of, sizes_fit};
 use reference::probe::Probe;
 
@@ -13,21 +14,33 @@ use crate::window;
 
 /// The windows that lists of a seed leave, up to `longest` samples, with their family.
 fn windows(seed: u64, longest: usize) -> impl Iterator<Item = (&'static str, Samples)> {
+    (0u64..).filter_map(move |number| window_of(&lists::list(seed, number), longest))
+}
+
+/// The windows that lists of one family leave.
+fn windows_of(name: &str, seed: u64, longest: usize) -> impl Iterator<Item = Samples> + use<> {
+    let family = FAMILIES.iter().find(|family| family.name == name);
+    let family = family.expect("a family of this name");
     (0u64..).filter_map(move |number| {
-        let list = lists::list(seed, number);
-        if !sizes_fit(&list.config, &list.calls, &vec![0; list.output_len]) {
+        let list = lists::of_family(family, seed, number);
+        window_of(&list, longest).map(|(_, samples)| samples)
+    })
+}
+
+/// The window that a list leaves, where it is not refused and not longer than `longest`.
+fn window_of(list: &List, longest: usize) -> Option<(&'static str, Samples)> {
+    if !sizes_fit(&list.config, &list.calls, &vec![0; list.output_len]) {
+        return None;
+    }
+    let mut probe = Probe::new(config_of(&list.config)).ok()?;
+    for call in calls_of(&list.calls) {
+        if access::stored(probe.inner()) > longest {
             return None;
         }
-        let mut probe = Probe::new(config_of(&list.config)).ok()?;
-        for call in calls_of(&list.calls) {
-            if access::stored(probe.inner()) > longest {
-                return None;
-            }
-            probe.step(call.dt, call.rate, call.moment).ok();
-        }
-        let samples = access::samples(probe.inner());
-        (samples.len() <= longest).then_some((list.family, samples))
-    })
+        probe.step(call.dt, call.rate, call.moment).ok();
+    }
+    let samples = access::samples(probe.inner());
+    (samples.len() <= longest).then_some((list.family, samples))
 }
 
 /// The tie rule over 21 entries.
@@ -148,7 +161,8 @@ fn delay_sums(file: &mut File, sums: &DelaySums, word: fn(&mut File, f32) -> &mu
     word(file, sums.target_squared);
 }
 
-/// Cholesky's solution and the residual: sums of windows, the same spoiled, and random ones.
+/// Cholesky's solution and the residual: sums of windows, the same spoiled, and random ones; then
+/// those whose difference overflows.
 pub fn solve(seed: u64) -> File {
     let mut random = Random::numbered(seed, 32);
     let mut file = File::default();
@@ -160,19 +174,52 @@ pub fn solve(seed: u64) -> File {
             1 => sums = random_sums(&mut random),
             _ => {}
         }
-        delay_sums(file.record_of(family), &sums, File::input);
-        let solved = sums.solve();
-        let (solution, residual) = solved.unwrap_or(([0.0; 6], 0.0));
-        file.word(u32::from(solved.is_some()));
-        for value in solution {
-            file.float(value);
-        }
-        file.float(residual);
+        solve_record(file.record_of(family), &sums);
         if file.records() == 950 {
             break;
         }
     }
+    for sums in overflowing(&mut random) {
+        solve_record(file.record(), &sums);
+    }
     file
+}
+
+fn solve_record(file: &mut File, sums: &DelaySums) {
+    delay_sums(file, sums, File::input);
+    let solved = sums.solve();
+    let (solution, residual) = solved.unwrap_or(([0.0; 6], 0.0));
+    file.word(u32::from(solved.is_some()));
+    for value in solution {
+        file.float(value);
+    }
+    file.float(residual);
+}
+
+/// Sums of each kind that request four of 02 tells apart.
+const EACH: usize = 20;
+
+/// Sums with a finite solution whose difference before max is NaN or one of the infinities.
+fn overflowing(random: &mut Random) -> Vec<DelaySums> {
+    let mut kept: BTreeMap<u32, usize> = BTreeMap::new();
+    let mut all = Vec::new();
+    while all.len() < 3 * EACH {
+        let mut sums = random_sums(random);
+        let factor = random.scaled(1e10, 1e25) as f32;
+        sums.projected = sums.projected.map(|value| factor * value);
+        let squares = sums.target_squared;
+        sums.target_squared = random.pick(&[squares, f32::MAX, f32::INFINITY]);
+        let Some((solution, difference)) = sums.difference() else {
+            continue;
+        };
+        let finite = solution.iter().all(|value| value.is_finite());
+        let count = kept.entry(float::bits(difference)).or_default();
+        if finite && !difference.is_finite() && *count < EACH {
+            *count += 1;
+            all.push(sums);
+        }
+    }
+    all
 }
 
 fn spoil(random: &mut Random, sums: &mut DelaySums) {
@@ -306,34 +353,73 @@ pub fn lagged(seed: u64) -> File {
     file
 }
 
-/// Gain fits over small windows, a random pole and step each.
+/// Gain fits over small windows, a random pole and step each; then those that request four of 02
+/// takes for none.
 pub fn gain(seed: u64) -> File {
     let mut random = Random::numbered(seed, 36);
     let mut file = File::default();
     for (family, samples) in windows(seed + 36, 70).filter(|(_, samples)| samples.len() > 10) {
-        let dt_s = samples.duration_s / samples.len() as f32;
-        let poles = access::lag_poles(dt_s);
-        let pole = random.pick(&poles);
-        let step = random.below(20);
-        let carry = access::carry(dt_s);
-        let lagged = access::lag_through(&samples.moments, pole);
-        file.record_of(family)
-            .word(samples.len() as u32)
-            .word(step as u32)
-            .wide(carry.to_bits());
-        for (rate, moment) in samples.rates.iter().zip(&lagged) {
-            file.input(*rate).input(*moment);
-        }
-        let fit = access::fit_gain(&samples.rates, &lagged, step, carry);
-        let (gain, residual) = fit.unwrap_or((0.0, 0.0));
-        file.word(u32::from(fit.is_some()))
-            .float(gain)
-            .float(residual);
+        gain_record(&mut file, family, &GainInput::random(&mut random, samples));
         if file.records() == 520 {
             break;
         }
     }
+    for (family, is_wanted) in [
+        ("gain beyond f32", f32::is_infinite as fn(f32) -> bool),
+        // A gain of NaN makes the difference NaN.
+        ("rates beyond f32 apart", f32::is_nan),
+    ] {
+        let inputs = windows_of(family, seed + 36, 70)
+            .map(|samples| GainInput::random(&mut random, samples))
+            .filter(|input| before_four(|| input.fit()).is_some_and(|(gain, _)| is_wanted(gain)));
+        for input in inputs.take(EACH) {
+            gain_record(&mut file, family, &input);
+        }
+    }
     file
+}
+
+/// What one gain fit is made of.
+struct GainInput {
+    rates: Vec<f32>,
+    lagged: Vec<f32>,
+    step: usize,
+    carry: f64,
+}
+
+impl GainInput {
+    /// A window with a random pole of its grid and a random step.
+    fn random(random: &mut Random, samples: Samples) -> GainInput {
+        let dt_s = samples.duration_s / samples.len() as f32;
+        let poles = access::lag_poles(dt_s);
+        let pole = random.pick(&poles);
+        GainInput {
+            step: random.below(20),
+            carry: access::carry(dt_s),
+            lagged: access::lag_through(&samples.moments, pole),
+            rates: samples.rates,
+        }
+    }
+
+    /// Gain and residual.
+    fn fit(&self) -> Option<(f32, f32)> {
+        access::fit_gain(&self.rates, &self.lagged, self.step, self.carry)
+    }
+}
+
+fn gain_record(file: &mut File, family: &'static str, input: &GainInput) {
+    file.record_of(family)
+        .word(input.rates.len() as u32)
+        .word(input.step as u32)
+        .wide(input.carry.to_bits());
+    for (rate, moment) in input.rates.iter().zip(&input.lagged) {
+        file.input(*rate).input(*moment);
+    }
+    let fit = input.fit();
+    let (gain, residual) = fit.unwrap_or((0.0, 0.0));
+    file.word(u32::from(fit.is_some()))
+        .float(gain)
+        .float(residual);
 }
 
 /// Whole integrated fits: none for too few samples, none with no position, whole and half

@@ -117,7 +117,8 @@ pub const KINDS: [Kind; 22] = [
         layout: "36 f normal matrix, column after column, of which the upper half is not read, 6 f projected, \
                  f squared targets; w 1 for a fit, else 0; 6 f solution, f residual",
         inputs: "sums of windows that lists leave, of which a quarter are spoiled in one entry and a quarter \
-                 are random sums instead",
+                 are random sums instead; random sums with a finite solution whose difference before max is \
+                 NaN or infinite, 20 of each",
         make: fits::solve,
     },
     Kind {
@@ -144,7 +145,8 @@ pub const KINDS: [Kind; 22] = [
         name: "gain",
         layout: "w stored, w step, carry as f64 bits (8 bytes); each f rate, f lagged; w 1 for a fit, else 0; \
                  f gain, f residual",
-        inputs: "windows that lists leave, with a random pole of the grid and a random step",
+        inputs: "windows that lists leave, with a random pole of the grid and a random step; 20 more whose \
+                 narrowed gain is infinite, and 20 whose difference before max is NaN",
         make: fits::gain,
     },
     Kind {

@@ -78,6 +78,7 @@ fn write(name: &str, folder: &Path, seed: u64) -> io::Result<()> {
 fn made_by(name: &str, seed: u64) -> String {
     format!(
         "Seed {seed}: `cargo run --release -p make_vectors -- {name} FOLDER --seed {seed}` in host/.\n\
-         The answers are those of stable-flight 110781c7ef with the stand-ins of documents 01 and 02. A NaN answer is 7FC00000.\n"
+         The answers are those of stable-flight 110781c7ef with the stand-ins of documents 01 and 02 and the two tests of 02's \
+         request four. A NaN answer is 7FC00000.\n"
     )
 }

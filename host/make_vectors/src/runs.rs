@@ -8,7 +8,7 @@ use reference::checked::{Ending, checked_run};
 use crate::file::File;
 
 /// Runs kept of each family and ending.
-const EACH: usize = 5;
+const EACH: usize = 4;
 /// Lists looked at.
 const LISTS: u64 = 20_000;
 /// The longest run kept, in calls, and that of the runs of more than 2,048 ticks, of which one

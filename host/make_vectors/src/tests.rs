@@ -1,6 +1,8 @@
 //! The files are read back by their layouts and held against plain arithmetic and against the
 //! second program.
 
+use reference::access::DelaySums;
+
 use crate::{file::File, fits, runs, scalars, sweep, units, window};
 
 /// Reads words off a file.
@@ -186,6 +188,105 @@ fn sums_are_those_over_the_rows_in_tick_order() {
             }
         }
     }
+}
+
+#[test]
+fn differences_that_overflow_are_solved_too() {
+    let file = fits::solve(7);
+    let mut reader = Reader::of(&file);
+    let [mut nan, mut infinite, mut minus_infinite] = [0; 3];
+    while !reader.at_end() {
+        let sums = DelaySums {
+            normal: std::array::from_fn(|_| reader.float()),
+            projected: std::array::from_fn(|_| reader.float()),
+            target_squared: reader.float(),
+        };
+        let fit = reader.word();
+        reader.bytes(24);
+        let residual = reader.word();
+        let Some((solution, difference)) = sums.difference() else {
+            continue;
+        };
+        if solution.iter().any(|value| !value.is_finite()) {
+            continue;
+        }
+        match difference {
+            f32::INFINITY => {
+                infinite += 1;
+                assert_eq!(fit, 0);
+            }
+            f32::NEG_INFINITY => {
+                minus_infinite += 1;
+                assert_eq!((fit, residual), (1, 0));
+            }
+            _ if difference.is_nan() => {
+                nan += 1;
+                assert_eq!(fit, 0);
+            }
+            _ => assert_eq!(fit, 1),
+        }
+    }
+    let counts = [nan, infinite, minus_infinite];
+    assert!(counts.iter().all(|count| *count >= 20), "{counts:?}");
+}
+
+/// The gain of a fit in f64 and the difference before max, straight from 01; none where the
+/// moment does not vary.
+fn gain_and_difference(
+    carry: f64,
+    step: usize,
+    rates: &[f32],
+    lagged: &[f32],
+) -> Option<(f64, f64)> {
+    let d = step / 2 + 1;
+    let [a, b] = if step % 2 == 1 {
+        [0.5, 0.5]
+    } else {
+        [1.0, 0.0]
+    };
+    let [mut m, mut c, mut t] = [0.0f64; 3];
+    let [mut mm, mut mc, mut cc, mut mt, mut ct, mut tt] = [0.0f64; 6];
+    for k in 11..rates.len() {
+        let [now, next] = [lagged[k + 1 - d], lagged[k - d]].map(f64::from);
+        m = carry * m + (a * now + b * next);
+        c = carry * c + 1.0;
+        t = carry * t + f64::from(rates[k] - rates[k - 1]);
+        (mm, mc, cc) = (mm + m * m, mc + m * c, cc + c * c);
+        (mt, ct, tt) = (mt + m * t, ct + c * t, tt + t * t);
+    }
+    let det = mm * cc - mc * mc;
+    let gain = (mt * cc - mc * ct) / det;
+    let trim = (mm * ct - mc * mt) / det;
+    (det > f64::EPSILON * mm * cc).then_some((gain, tt - gain * mt - trim * ct))
+}
+
+#[test]
+fn gains_that_are_not_finite_are_no_fits() {
+    let file = fits::gain(7);
+    let mut reader = Reader::of(&file);
+    let [mut infinite, mut nan] = [0; 2];
+    while !reader.at_end() {
+        let (stored, step) = (reader.word(), reader.word() as usize);
+        let carry = u64::from(reader.word()) << 32 | u64::from(reader.word());
+        let (rates, lagged): (Vec<f32>, Vec<f32>) = (0..stored)
+            .map(|_| (reader.float(), reader.float()))
+            .unzip();
+        let (fit, gain) = (reader.word(), reader.word());
+        reader.word();
+        match gain_and_difference(f64::from_bits(carry), step, &rates, &lagged) {
+            None => assert_eq!(fit, 0),
+            Some((_, difference)) if difference.is_nan() => {
+                nan += 1;
+                assert_eq!(fit, 0);
+            }
+            Some((wide, _)) if (wide as f32).is_infinite() => {
+                infinite += 1;
+                assert_eq!(fit, 0);
+            }
+            Some((wide, _)) => assert_eq!((fit, gain), (1, (wide as f32).to_bits())),
+        }
+    }
+    assert!(infinite >= 20 && nan >= 20, "{infinite} and {nan}");
 }
 
 #[test]

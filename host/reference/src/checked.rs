@@ -55,9 +55,14 @@ impl Ending {
 
     /// Whether the integrated fit was entered.
     pub fn integrated(self) -> bool {
+        self.done_by_integrated() || self == Ending::UnexcitedIntegrated
+    }
+
+    /// Whether the integrated fit made the model.
+    pub fn done_by_integrated(self) -> bool {
         matches!(
             self,
-            Ending::DoneIntegratedWhole | Ending::DoneIntegratedHalf | Ending::UnexcitedIntegrated
+            Ending::DoneIntegratedWhole | Ending::DoneIntegratedHalf
         )
     }
 }
@@ -81,7 +86,8 @@ pub struct Answer {
     pub extended: bool,
 }
 
-/// Runs the reference over a list, and panics where the account says otherwise.
+/// Runs the reference over a list, and panics where the account says otherwise or an integrated
+/// model holds a number that is not finite.
 pub fn checked_run(config: &[u8], calls: &[u8], output: &mut [u8]) -> Answer {
     let before = output.to_vec();
     match byte_run::probe_run(config, calls, output) {
@@ -100,7 +106,9 @@ pub fn checked_run(config: &[u8], calls: &[u8], output: &mut [u8]) -> Answer {
         }
         Ok(probe) => {
             let account = Account::of(&config_of(config), calls_of(calls));
+            let ending = ending(&probe, &account);
             check(&probe, &account, output);
+            check_finite(&probe, ending);
             let written = REPORT_LEN + 4 * account.turned_back.len();
             assert!(
                 output[written..] == before[written..],
@@ -112,7 +120,7 @@ pub fn checked_run(config: &[u8], calls: &[u8], output: &mut [u8]) -> Answer {
             };
             Answer {
                 result: 0,
-                ending: ending(&probe, &account),
+                ending,
                 half_ticks: probe.half_ticks(),
                 moment_weights: model.map(|model| model.moment_weights),
                 units: model.and_then(|model| of_model(&model)),
@@ -187,6 +195,17 @@ fn check(probe: &Probe, account: &Account, output: &[u8]) {
     }
 }
 
+/// Holds an integrated model to finite numbers, which the tests of 02's request four make it have.
+fn check_finite(probe: &Probe, ending: Ending) {
+    if ending.done_by_integrated() && access::tests_of_four() {
+        let floats = probe.report().floats;
+        assert!(
+            floats.iter().all(|value| float::is_finite(*value)),
+            "an integrated model holds finite numbers only: {floats:?}"
+        );
+    }
+}
+
 fn ending(probe: &Probe, account: &Account) -> Ending {
     let integrated = account.class == Some(Class::Integrated);
     match probe.status() {
@@ -199,5 +218,48 @@ fn ending(probe: &Probe, account: &Account) -> Ending {
         IdentifyStatus::Aborted(access::IdentifyAbort::Saturated) => Ending::Saturated,
         IdentifyStatus::Aborted(_) if integrated => Ending::UnexcitedIntegrated,
         IdentifyStatus::Aborted(_) => Ending::UnexcitedNoSolve,
+    }
+}
+
+#[cfg(test)]
+mod tests {
+    use super::{Ending, check_finite};
+    use crate::access::{IdentifyConfig, before_four};
+    use crate::probe::Probe;
+
+    /// A probe that made weights of NaN before request four: noise, and two rates further apart
+    /// than f32 reaches between two held samples.
+    fn with_nan_weights() -> Probe {
+        let config = IdentifyConfig {
+            amplitude: 1.0,
+            duration_s: 10.0,
+            washout_tc_s: 0.5,
+            noisy: None,
+        };
+        let mut probe = Probe::new(config).expect("a good configuration");
+        let mut state = 1u32;
+        let mut unit = || {
+            state = state.wrapping_mul(1_664_525).wrapping_add(1_013_904_223);
+            (state >> 16) as f32 / 65_536.0 - 0.5
+        };
+        for tick in 0..40 {
+            let (rate, moment) = match tick {
+                20 | 23 => (f32::NAN, unit()),
+                21 => (3e38, unit()),
+                22 => (-2e38, unit()),
+                _ => (unit(), unit()),
+            };
+            probe.step(0.25, rate, moment).expect("a good call");
+        }
+        probe
+    }
+
+    #[test]
+    #[should_panic(expected = "finite numbers only")]
+    fn a_weight_of_nan_is_found() {
+        let probe = before_four(with_nan_weights);
+        before_four(|| check_finite(&probe, Ending::DoneIntegratedWhole));
+        check_finite(&probe, Ending::DoneRecorded);
+        check_finite(&probe, Ending::DoneIntegratedWhole);
     }
 }

@@ -1,5 +1,6 @@
 //! The reference's answers: identify.rs of stable-flight, compiled from a checkout with the
-//! stand-ins of documents 01 and 02 for `nalgebra` and `libm`, and 01's byte run over it.
+//! stand-ins of documents 01 and 02 for `nalgebra` and `libm` and the two tests of 02's request
+//! four, and 01's byte run over it.
 //!
 //! build.rs lists every change to the Rust. [`access`] reaches its private parts, [`probe`]
 //! puts 01's refusals and report around it, [`byte_run`] is 01's byte run, [`account`] counts

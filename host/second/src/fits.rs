@@ -69,6 +69,9 @@ fn recorded_at(window: &[Sample], rows: &[usize], d: usize) -> Option<([f32; 6],
     let solution = solved(a, b)?;
     let dot = (0..6).fold(0.0, |sum, i| sum + solution[i] * b[i]);
     let difference = squares - dot;
+    if difference.is_nan() {
+        return None;
+    }
     let residual = if difference > 0.0 { difference } else { 0.0 };
     let finite = solution.iter().all(|c| c.is_finite()) && residual.is_finite();
     if finite {
@@ -240,8 +243,12 @@ impl<'a> Gains<'a> {
         let gain = (mt * cc - mc * ct) / det;
         let trim = (mm * ct - mc * mt) / det;
         let difference = tt - gain * mt - trim * ct;
+        let gain = gain as f32;
+        if difference.is_nan() || !gain.is_finite() {
+            return None;
+        }
         let residual = if difference > 0.0 { difference } else { 0.0 };
-        Some((gain as f32, residual as f32))
+        Some((gain, residual as f32))
     }
 }
 

@@ -1,5 +1,6 @@
 //! The families of lists.
 
+mod beyond;
 mod calls;
 mod flights;
 mod made;
@@ -16,7 +17,7 @@ pub struct Family {
     pub make: fn(&mut Random, &'static str) -> List,
 }
 
-pub const FAMILIES: [Family; 20] = [
+pub const FAMILIES: [Family; 24] = [
     Family {
         name: "clean flight",
         weight: 10,
@@ -71,6 +72,26 @@ pub const FAMILIES: [Family; 20] = [
         name: "overflowing residual",
         weight: 4,
         make: windows::overflowing,
+    },
+    Family {
+        name: "rates beyond f32 apart",
+        weight: 4,
+        make: beyond::rates_apart,
+    },
+    Family {
+        name: "recorded error beyond f32",
+        weight: 3,
+        make: beyond::recorded_beyond,
+    },
+    Family {
+        name: "gain beyond f32",
+        weight: 3,
+        make: beyond::gain_beyond,
+    },
+    Family {
+        name: "search cut short",
+        weight: 3,
+        make: beyond::search_cut_short,
     },
     Family {
         name: "at the noise limit",

@@ -1,5 +1,6 @@
 //! Access to the private parts of identify.rs, as plain values, and the notes that build.rs
 //! lets it take: gain fits made, what the grid keeps, the integrated fit's step, the sums of a classification.
+//! [`before_four`] leaves out the two tests that build.rs puts in for request four of 02.
 
 use std::cell::{Cell, RefCell};
 
@@ -17,6 +18,20 @@ thread_local! {
     static GRID: Cell<[Option<Candidate>; DELAY_STEPS]> = const { Cell::new([None; DELAY_STEPS]) };
     static STEP: Cell<Option<usize>> = const { Cell::new(None) };
     static SUMS: RefCell<Option<DelayFits>> = const { RefCell::new(None) };
+    static BEFORE_FOUR: Cell<bool> = const { Cell::new(false) };
+}
+
+/// Whether the two tests of 02's request four are made.
+pub(crate) fn tests_of_four() -> bool {
+    !BEFORE_FOUR.get()
+}
+
+/// Does `work` with the fits as they were before request four of 02, on this thread.
+pub fn before_four<T>(work: impl FnOnce() -> T) -> T {
+    let outer = BEFORE_FOUR.replace(true);
+    let answer = work();
+    BEFORE_FOUR.set(outer);
+    answer
 }
 
 pub(super) fn count_gain_fit() {
@@ -242,16 +257,28 @@ pub struct DelaySums {
 }
 
 impl DelaySums {
-    /// Cholesky's solution and the residual.
-    pub fn solve(&self) -> Option<([f32; TERMS], f32)> {
+    fn sums(&self) -> Sums {
         let column = |j: usize| core::array::from_fn(|i| self.normal[TERMS * j + i]);
-        let sums = Sums {
+        Sums {
             normal: SMatrix::from_columns_array(core::array::from_fn(column)),
             projected: SVector::from(self.projected),
             target_squared: self.target_squared,
-        };
-        sums.solve()
+        }
+    }
+
+    /// Cholesky's solution and the residual.
+    pub fn solve(&self) -> Option<([f32; TERMS], f32)> {
+        self.sums()
+            .solve()
             .map(|(solution, residual)| (core::array::from_fn(|i| solution[i]), residual))
+    }
+
+    /// Cholesky's solution, finite or not, and the difference whose max(v, 0) is the residual.
+    pub fn difference(&self) -> Option<([f32; TERMS], f32)> {
+        let sums = self.sums();
+        let solution = sums.normal.cholesky()?.solve(&sums.projected);
+        let difference = sums.target_squared - solution.dot(&sums.projected);
+        Some((core::array::from_fn(|i| solution[i]), difference))
     }
 }
 
