@@ -72,6 +72,9 @@ extern "C" {
  * runs). The delay of a done probe is d + half / 2 ticks, 1 to 10.5, where d is output[0] >> 2 & 15 and half output[0] >> 1 & 1.
  * The weights do not tell it: those of a gain of 0 are alike for a whole delay and for a half one.
  *
+ * A done probe whose gain fits are not 0 was fitted by the search of a noisy window, and then all six floats are finite. Nothing
+ * promises that of a quiet window, whose gain fits are 0.
+ *
  * Answers 0, or a number, and then no byte is written:
  *   1  amplitude zero or not finite
  *   2  duration_s not positive and finite, or above 3,600

@@ -74,7 +74,8 @@ class Model:
     dt_s: float
     """Length of one tick, in s: the mean over the window."""
     integrated: bool
-    """True for the fit of a noisy window, False for the fit on the recorded rates of a quiet one."""
+    """True for the fit of a noisy window, whose weights and dt_s are finite; False for the fit on the recorded rates of a
+    quiet one."""
     lag_s: float | None = None
     """Time constant, in s, with which the acceleration follows the moment; 0 where the fit sees no lag. None where the
     pole, minus the second rate weight, is 1 or more, or NaN: then the model has neither lag nor push."""

@@ -9,7 +9,7 @@ from typing import Any
 
 from .log import Log
 from .records import RULES, Config, Ending, Model, Report
-from .window import Sample, at_limit, extension_taken, stored_window
+from .window import Sample, at_limit, extension_taken, stored_window, taken_calls
 
 WIDTH = 100
 """Columns to which the text's sentences are broken."""
@@ -17,6 +17,8 @@ LINES_NAMED = 5
 """How many lines of the log the text names for one rule."""
 TERMS = 6
 """Unknowns of the fit on the recorded rates: with fewer rows it has no answer."""
+WILD_RATE = 1000.0
+"""No airframe turns this fast, in rad/s: a reading beyond it is a fault of the gyro or of the log."""
 
 ENDINGS = {Ending.RUNNING: "running", Ending.DONE: "done", Ending.UNEXCITED: "unexcited", Ending.SATURATED: "saturated"}
 
@@ -132,7 +134,7 @@ def reason(log: Log, config: Config, report: Report) -> str | None:
     samples = stored_window(log.dt, log.rate, log.moment, report)
     if report.ending is Ending.SATURATED:
         return saturated_reason(samples)
-    return unexcited_reason(samples, report)
+    return wild_reason(log, samples, report) or unexcited_reason(samples, report)
 
 
 def running_reason(log: Log, config: Config, report: Report) -> str:
@@ -156,6 +158,21 @@ def saturated_reason(samples: list[Sample]) -> str:
     return (
         f"{count} of {len(samples)} moments ({share:.0%}) are at the limit, more than a fifth, and the window is noisy: a "
         "clipped moment is not the one that the airframe felt. Lower the rate loop's gains or the amplitude."
+    )
+
+
+def wild_reason(log: Log, samples: list[Sample], report: Report) -> str | None:
+    """The search of a noisy window found no gain, and readings are there that no gyro gives; None otherwise."""
+    calls = zip(taken_calls(report), samples)
+    wild = [(log.lines[call], sample.rate) for call, sample in calls if abs(sample.rate) > WILD_RATE and not sample.held]
+    if not (report.gain_fits and wild):
+        return None
+    (first, rate), (last, _) = wild[0], wild[-1]
+    places = f"line {first}" if first == last else f"lines {first} to {last}"
+    noun = "rate is" if len(wild) == 1 else "rates are"
+    return (
+        f"the window is noisy, and no fit of it has a finite gain and a finite error: {len(wild)} {noun} beyond "
+        f"{WILD_RATE:,.0f} rad/s ({places}, the first {rate:.3g}). Write nan for such readings, and they count as held."
     )
 
 

@@ -10,7 +10,7 @@ import unittest
 from pathlib import Path
 from unittest import mock
 
-from support import DEMO, ROOT, command, gainless_flight, identify, log_text, made_flight
+from support import DEMO, ROOT, command, gainless_flight, identify, log_text, made_flight, wild_log
 
 from identify import cli
 
@@ -105,6 +105,37 @@ class Good(unittest.TestCase):
         self.assertIn("12 in the log, 8 turned back", result.stdout)
         self.assertIn("dt not positive and finite: 7 turned back (lines 3, 4, 5, 6, 7 and 2 more)", result.stdout)
         self.assertIn("elapsed time + dt above 4,096 s: 1 turned back (line 10)", result.stdout)
+
+
+class Wild(unittest.TestCase):
+    """A short stretch of wild rates between two held samples: the fit on the recorded rates does not see it, the
+    integrated fit does."""
+
+    def model(self, given):
+        return json.loads(command("-", "--json", given=given).stdout)["model"]
+
+    def test_rates_further_apart_than_a_single_holds(self):
+        result = command("-", given=wild_log("noisy.csv", 803, ["3e38", "-3e38"] * 3))
+        self.assertEqual((result.returncode, result.stderr), (0, ""))
+        words = " ".join(result.stdout.split())
+        self.assertIn("gave up: unexcited the window is noisy, and no fit of it has a finite gain and a finite error: 6 rates "
+                      "are beyond 1,000 rad/s (lines 803 to 808, the first 3e+38). Write nan for such readings", words)
+        self.assertIn("held 9, warm 50, rows 1941, gain fits 2580", words)
+        self.assertNotIn("weights", words)
+
+    def test_one_wild_reading(self):
+        result = command("-", given=wild_log("noisy.csv", 803, ["-3.4e38"]))
+        self.assertIn("1 rate is beyond 1,000 rad/s (line 803, the first -3.4e+38)", " ".join(result.stdout.split()))
+
+    def test_written_as_lost_they_are_held(self):
+        found = self.model(wild_log("noisy.csv", 803, ["nan"] * 6))
+        self.assertEqual((found["fit"], found["delay_ticks"]), ("integrated", 3.5))
+
+    def test_a_model_of_the_integrated_fit_is_finite(self):
+        for rates in (["1e10", "-1e10"], ["1e19", "-1e19"], ["1e30", "-1e30"], ["1e38", "-1e38"]):
+            with self.subTest(rates=rates):
+                found = self.model(wild_log("noisy.csv", 803, rates * 3))
+                self.assertTrue(found is None or None not in (*found["rate_weights"], *found["moment_weights"], found["dt_s"]))
 
 
 class Readme(unittest.TestCase):

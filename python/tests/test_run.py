@@ -218,6 +218,38 @@ class Halves(unittest.TestCase):
         self.assertEqual(f"{first:08b}", "01" "0011" "1" "0")
 
 
+def last_calls(*words):
+    """A run over nine calls of zeros and then these rates and moments, as bits in hexadecimal, to the last call's end."""
+    last = struct.unpack(f">{2 * len(words)}f", bytes.fromhex("".join(words)))
+    rates, moments = [0.0] * 9 + list(last[::2]), [0.0] * 9 + list(last[1::2])
+    return identify.run(Config(1.0, 0.25 * len(rates), 0.5, None), [0.25] * len(rates), rates, moments)
+
+
+class NoFit(unittest.TestCase):
+    """What counts as no fit, in the smallest windows that show it."""
+
+    TWELVE = ("37800000 3d000000", "9a100000 3ee00000")
+    """With one call more, twelve and so one row; solution and projected terms multiply beyond a single."""
+    TINY = ("9b3d297c 1aad0f34", "9a90525c 9a0243e5", "43800000 9b0de315")
+    """Twelve and one row of tiny squares: a noisy window."""
+
+    def test_a_recorded_difference_of_minus_infinity_is_a_fit(self):
+        words = "44000006 00600000 58008000 79b504f3 6600000c e0800000 60800000 00000000 3e800000"
+        self.assertEqual(last_calls(*self.TWELVE, "5f400000 3e900000").raw.hex(" ", 4), words)
+
+    def test_one_of_nan_is_none(self):
+        """The square of the last rate is beyond a single too: infinity less infinity."""
+        self.assertIs(last_calls(*self.TWELVE, "5fc00000 3e900000").ending, Ending.UNEXCITED)
+
+    def test_a_gain_beyond_a_single_is_none(self):
+        report = last_calls(*self.TINY, "5d800000 7fc00000")
+        self.assertEqual((report.ending, report.held, report.gain_fits), (Ending.UNEXCITED, 1, 2580))
+
+    def test_so_is_that_of_rates_further_apart_than_a_single_holds(self):
+        report = last_calls(*self.TINY, "7f000000 7fc00000", "ff000000 7fc00000")
+        self.assertEqual((report.ending, report.held, report.gain_fits), (Ending.UNEXCITED, 2, 2580))
+
+
 class Prediction(unittest.TestCase):
     """The model one step ahead."""
 
