@@ -5,11 +5,13 @@ import json
 import math
 import textwrap
 from collections import Counter
+from itertools import islice
 from typing import Any
 
 from .log import Log
 from .records import RULES, Config, Ending, Model, Report
 from .window import Sample, at_limit, extension_taken, stored_window, taken_calls
+from .wire import singles
 
 WIDTH = 100
 """Columns to which the text's sentences are broken."""
@@ -19,6 +21,8 @@ TERMS = 6
 """Unknowns of the fit on the recorded rates: with fewer rows it has no answer."""
 WILD_RATE = 1000.0
 """No airframe turns this fast, in rad/s: a reading beyond it is a fault of the gyro or of the log."""
+SQUARABLE_RATE = 1.8e19
+"""The square of a rate beyond this, in rad/s, is beyond single precision."""
 
 ENDINGS = {Ending.RUNNING: "running", Ending.DONE: "done", Ending.UNEXCITED: "unexcited", Ending.SATURATED: "saturated"}
 
@@ -134,7 +138,7 @@ def reason(log: Log, config: Config, report: Report) -> str | None:
     samples = stored_window(log.dt, log.rate, log.moment, report)
     if report.ending is Ending.SATURATED:
         return saturated_reason(samples)
-    return wild_reason(log, samples, report) or unexcited_reason(samples, report)
+    return unexcited_reason(log, samples, report)
 
 
 def running_reason(log: Log, config: Config, report: Report) -> str:
@@ -161,33 +165,42 @@ def saturated_reason(samples: list[Sample]) -> str:
     )
 
 
-def wild_reason(log: Log, samples: list[Sample], report: Report) -> str | None:
-    """The search of a noisy window found no gain, and readings are there that no gyro gives; None otherwise."""
-    calls = zip(taken_calls(report), samples)
-    wild = [(log.lines[call], sample.rate) for call, sample in calls if abs(sample.rate) > WILD_RATE and not sample.held]
-    if not (report.gain_fits and wild):
-        return None
-    (first, rate), (last, _) = wild[0], wild[-1]
-    places = f"line {first}" if first == last else f"lines {first} to {last}"
-    noun = "rate is" if len(wild) == 1 else "rates are"
-    return (
-        f"the window is noisy, and no fit of it has a finite gain and a finite error: {len(wild)} {noun} beyond "
-        f"{WILD_RATE:,.0f} rad/s ({places}, the first {rate:.3g}). Write nan for such readings, and they count as held."
-    )
-
-
-def unexcited_reason(samples: list[Sample], report: Report) -> str:
+def unexcited_reason(log: Log, samples: list[Sample], report: Report) -> str:
     """No fit had an answer."""
     if report.rows < TERMS:
         return (
             f"only {report.rows} rows to fit, fewer than the {TERMS} unknowns ({report.stored} samples, {report.held} held; "
             "a row needs 12 good samples on end). Check the log's length, its dt and its nan readings."
         )
+    wild = wild_readings(log, report)
+    if wild and (report.gain_fits or max(abs(rate) for _, rate in wild) > SQUARABLE_RATE):
+        return wild_reason(wild, report)
     least = min(sample.moment for sample in samples)
     most = max(sample.moment for sample in samples)
     return (
         f"the excitation did not move the moment enough to tell the terms apart (it lies between {least:.3g} and "
         f"{most:.3g}). Check that the moment is that of the probed axis, and raise the amplitude."
+    )
+
+
+def wild_readings(log: Log, report: Report) -> list[tuple[int, float]]:
+    """Line and rate of each stored reading that no airframe gives."""
+    rates = singles(log.rate)
+    stored = islice(taken_calls(report), report.stored)
+    return [(log.lines[call], rates[call]) for call in stored if WILD_RATE < abs(rates[call]) < math.inf]
+
+
+def wild_reason(wild: list[tuple[int, float]], report: Report) -> str:
+    """Readings beyond what single precision can fit."""
+    what = "the window is noisy, and no fit of it has a finite gain and a finite error"
+    if not report.gain_fits:
+        what = "no fit of the window has finite numbers"
+    (first, rate), (last, _) = wild[0], wild[-1]
+    places = f"line {first}" if first == last else f"lines {first} to {last}"
+    noun = "rate is" if len(wild) == 1 else "rates are"
+    return (
+        f"{what}: {len(wild)} {noun} beyond {WILD_RATE:,.0f} rad/s ({places}, the first {rate:.3g}). Write nan for such "
+        "readings, and they count as held."
     )
 
 

@@ -53,11 +53,11 @@ def gainless_flight(
     return identify.Config(0.5, (ticks - 0.5) * dt, 0.2, None), [dt] * ticks, rates, moments
 
 
-def wild_log(name: str, first: int, rates: list[str]) -> str:
-    """A demo flight with these rates from line `first` on, between two readings that are lost."""
+def wild_log(name: str, first: int, rates: list[str], around: str = "nan") -> str:
+    """A demo flight with these rates from line `first` on, between two rates of `around`: lost ones."""
     lines = (DEMO / name).read_text().splitlines()
     column = lines[0].split(",").index("rate")
-    for number, rate in enumerate(["nan", *rates, "nan"], start=first - 1):
+    for number, rate in enumerate([around, *rates, around], start=first - 1):
         cells = lines[number - 1].split(",")
         cells[column] = rate
         lines[number - 1] = ",".join(cells)

@@ -127,6 +127,20 @@ class Wild(unittest.TestCase):
         result = command("-", given=wild_log("noisy.csv", 803, ["-3.4e38"]))
         self.assertIn("1 rate is beyond 1,000 rad/s (line 803, the first -3.4e+38)", " ".join(result.stdout.split()))
 
+    def test_wild_readings_that_rows_see(self):
+        result = command("-", given=wild_log("noisy.csv", 803, ["3e38", "-3e38"], around="0"))
+        words = " ".join(result.stdout.split())
+        self.assertIn("gave up: unexcited no fit of the window has finite numbers: 2 rates are beyond 1,000 rad/s (lines 803 to "
+                      "804, the first 3e+38)", words)
+        self.assertIn("gain fits 0", words)
+
+    def test_a_wild_reading_beside_a_lost_moment(self):
+        lines = (DEMO / "noisy.csv").read_text().splitlines()
+        for number, rate in ((803, "3e38"), (804, "-3e38")):
+            lines[number - 1] = f"0,0.004,{rate},nan,0"
+        words = " ".join(command("-", given="\n".join(lines)).stdout.split())
+        self.assertIn("2 rates are beyond 1,000 rad/s (lines 803 to 804, the first 3e+38)", words)
+
     def test_written_as_lost_they_are_held(self):
         found = self.model(wild_log("noisy.csv", 803, ["nan"] * 6))
         self.assertEqual((found["fit"], found["delay_ticks"]), ("integrated", 3.5))
