@@ -36,7 +36,7 @@ use Rattle.integrated.specs.Integrated as integrated
 use Rattle.account.specs.declared.IdentifyStatus.{IdentifyStatus}
 use Rattle.account.specs.declared.IdentifyStatus.the-variants as status
 use Rattle.account.specs.Probe.{finished, statusOf, delayOf, stands}
-use Rattle.account.specs.Account.{Account, ratesOf, momentsOf, marksOf}
+use Rattle.account.specs.Account.{Account, ratesOf, momentsOf, marksOf, accountClass}
 use Rattle.account.specs.Claim.{recordedPosition, integratedPosition, Delayed, byRecorded, byIntegrated, delayAt, delayBy, accountDelay}
 
 -- what a status keeps of a delay: a model with it, one tick to ten and a half, or none
@@ -89,7 +89,7 @@ module _ (a : Account) where
   by-position m Nowhere f dt rows moments e h = absurd (let z : _≡_ {A = ℕ} 0 1 = cc in omega arith)
   by-position m (At p) f dt rows moments e h = by-solved m (f (p - 1)) p dt rows moments e h
 
-  by-recorded : (m : RateModel) → classify (ratesOf a) (momentsOf a) (marksOf a) (a .duration) ≡ Recorded m → Keeps a (status.Done m) (delayAt ofRecorded (recordedPosition a))
+  by-recorded : (m : RateModel) → accountClass a ≡ Recorded m → Keeps a (status.Done m) (delayAt ofRecorded (recordedPosition a))
   unfolding classify fitRecorded
   by-recorded m h =
       by-position m (recordedPosition a) (solvedAt (ratesOf a) (momentsOf a) (marksOf a)) (rowsDt (marksOf a) (length (ratesOf a)) (a .duration)) (many isRow (marksOf a)) (momentsOf a) refl h
@@ -116,17 +116,17 @@ module _ (a : Account) where
       let dt = meanDt (a .duration) n in
       by-step (integratedPosition a) dt (windowFit (ratesOf a) (momentsOf a) dt n) refl refl
 
-  by-class : (x : Classified) → classify (ratesOf a) (momentsOf a) (marksOf a) (a .duration) ≡ x → Keeps a (finished x (ratesOf a) (momentsOf a) (a .duration) .status) (delayBy x a)
+  by-class : (x : Classified) → accountClass a ≡ x → Keeps a (finished x (ratesOf a) (momentsOf a) (a .duration) .status) (delayBy x a)
   unfolding finished fitIntegrated delayBy
   by-class (Recorded m) e = by-recorded m e
   by-class Integrated e = by-long (leb (length (ratesOf a)) (firstTick + 1))
   by-class Unexcited e = unexcited a
   by-class Saturated e = saturates a
 
-  keeps : (r : Bool) → Keeps a (stands r (a .elapsed) (ratesOf a) (momentsOf a) (marksOf a) (a .duration) .status) (cond r noDelay (delayBy (classify (ratesOf a) (momentsOf a) (marksOf a) (a .duration)) a))
+  keeps : (r : Bool) → Keeps a (stands r (a .elapsed) (ratesOf a) (momentsOf a) (marksOf a) (a .duration) .status) (cond r noDelay (delayBy (accountClass a) a))
   unfolding stands
   keeps true = running a (a .elapsed)
-  keeps false = by-class (classify (ratesOf a) (momentsOf a) (marksOf a) (a .duration)) refl
+  keeps false = by-class (accountClass a) refl
 
   -- ---- what it says: of a model, and of the account
   of-model : {s : IdentifyStatus} {d : Delay} (m : RateModel) → s ≡ status.Done m → Keeps a s d → Delayed a m × (2 ≤ d .«half_ticks»)

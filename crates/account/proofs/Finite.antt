@@ -10,21 +10,18 @@ use Rattle.integrated.specs.declared.Fitted.{Fitted}
 use Rattle.integrated.specs.declared.Fitted.the-variants.{Nothing, Model}
 use Rattle.integrated.specs.Integrated.{fitIntegrated}
 use Rattle.finite_model.specs.FiniteModel.{FiniteModel}
-use Rattle.finite_model.proofs.Poles.{Plus}
+use Rattle.finite_model.proofs.Multiples.{NonNegative}
 use Rattle.finite_model.proofs.Model.{integrated-finite}
 use Rattle.account.specs.declared.IdentifyStatus.the-variants as status
-use Rattle.account.specs.Probe.{Standing, finished, statusOf, stands}
-use Rattle.account.specs.Account.{Account, ratesOf, momentsOf, marksOf}
-use Rattle.account.specs.Claim.{accountClass}
+use Rattle.account.specs.Probe.{finished, statusOf, stands}
+use Rattle.account.specs.Account.{Account, ratesOf, momentsOf, accountClass}
+use Rattle.account.proofs.Follow.{standsOf}
 
 modelled : (f : Fitted) (m : RateModel) → statusOf f ≡ status.Done m → f ≡ Model m
 modelled (Model n) m e = cc
 modelled Nothing m e = absurd (let z : _≡_ {A = ℕ} 0 1 = cc in omega arith)
 
 module _ (a : Account) where
-  abbrev standing : Bool → Standing
-  standing r = stands r (a .elapsed) (ratesOf a) (momentsOf a) (marksOf a) (a .duration)
-
   fitted-by : (x : Classified) (m : RateModel) → finished x (ratesOf a) (momentsOf a) (a .duration) .status ≡ status.Done m
       → 1 ≤ finished x (ratesOf a) (momentsOf a) (a .duration) .fits → x ≡ Integrated
   unfolding finished
@@ -34,19 +31,19 @@ module _ (a : Account) where
   fitted-by Saturated m e h = absurd (omega arith)
 
   -- a done probe that made gain fits has an integrated window
-  pub by-integrated : (r : Bool) (m : RateModel) → standing r .status ≡ status.Done m → 1 ≤ standing r .fits → accountClass a ≡ Integrated
+  pub by-integrated : (r : Bool) (m : RateModel) → standsOf r a .status ≡ status.Done m → 1 ≤ standsOf r a .fits → accountClass a ≡ Integrated
   unfolding stands
   by-integrated true m e h = absurd (omega arith)
   by-integrated false m e h = fitted-by (accountClass a) m e h
 
-  finite-of : (x : Classified) (m : RateModel) → Plus (a .duration) → finished x (ratesOf a) (momentsOf a) (a .duration) .status ≡ status.Done m → x ≡ Integrated → FiniteModel m
+  finite-of : (x : Classified) (m : RateModel) → NonNegative (a .duration) → finished x (ratesOf a) (momentsOf a) (a .duration) .status ≡ status.Done m → x ≡ Integrated → FiniteModel m
   unfolding finished
   finite-of Integrated m d e h = integrated-finite (ratesOf a) (momentsOf a) (a .duration) m d (modelled (fitIntegrated (ratesOf a) (momentsOf a) (a .duration) .fitted) m e)
   finite-of (Recorded n) m d e h = absurd (let z : _≡_ {A = ℕ} 0 1 = cc in omega arith)
   finite-of Unexcited m d e h = absurd (let z : _≡_ {A = ℕ} 0 1 = cc in omega arith)
   finite-of Saturated m d e h = absurd (let z : _≡_ {A = ℕ} 0 1 = cc in omega arith)
 
-  pub finite-model : (r : Bool) (m : RateModel) → Plus (a .duration) → standing r .status ≡ status.Done m → accountClass a ≡ Integrated → FiniteModel m
+  pub finite-model : (r : Bool) (m : RateModel) → NonNegative (a .duration) → standsOf r a .status ≡ status.Done m → accountClass a ≡ Integrated → FiniteModel m
   unfolding stands
   finite-model true m d e h = absurd (let z : _≡_ {A = ℕ} 0 1 = cc in omega arith)
   finite-model false m d e h = finite-of (accountClass a) m d e h

@@ -11,7 +11,6 @@ use Rattle.sweep.specs.Sweep.{nextSweep}
 use Rattle.window.specs.Samples.{Samples, noSamples, push, room, lastOf, hold, bad, store}
 use Rattle.recorded.specs.declared.Classified.{Classified}
 use Rattle.recorded.specs.declared.Classified.the-variants.{Recorded, Integrated, Unexcited, Saturated}
-use Rattle.recorded.specs.Classify.{classify}
 use Rattle.integrated.specs.declared.Fitted.{Fitted}
 use Rattle.integrated.specs.declared.Fitted.the-variants as fitted
 use Rattle.integrated.specs.Integrated.{fitIntegrated}
@@ -19,7 +18,7 @@ use Rattle.account.specs.declared.IdentifyConfig.{IdentifyConfig}
 use Rattle.account.specs.declared.Noisy.{Noisy}
 use Rattle.account.specs.declared.Noisy.the-variants.{Absent, Present}
 use Rattle.account.specs.Probe.{Call, Probe, Standing, Closing, clock, finished, statusOf, stands, takes, extend, close, tick, answer, step, fresh, after, replies, number}
-use Rattle.account.specs.Account.{Account, Entry, blank, opened, account, entry, counted, Going, judged, ended, accept, continue, next, turned, turnedBack, time, ratesOf, momentsOf, marksOf}
+use Rattle.account.specs.Account.{Account, Entry, blank, opened, account, entry, counted, Going, judged, ended, accept, continue, next, turned, turnedBack, time, ratesOf, momentsOf, marksOf, accountClass}
 
 map-push : {A B : Type 0} (f : A → B) (b : Bool) (l : List A) (x : A) → map f (cond b (l ++ (x ∷ [])) l) ≡ push b (map f l) (f x)
 unfolding push
@@ -68,7 +67,7 @@ end-clock Saturated rates moments d = refl
 pub clocks : (r : Bool) (a : Account) → clock (standsOf r a .status) ≡ time r a
 unfolding clock stands time
 clocks true a = refl
-clocks false a = end-clock (classify (ratesOf a) (momentsOf a) (marksOf a) (a .duration)) (ratesOf a) (momentsOf a) (a .duration)
+clocks false a = end-clock (accountClass a) (ratesOf a) (momentsOf a) (a .duration)
 
 -- ---- the end of a tick decides what the account decides, and the sweep is its own
 module _ (a : Account) (o : List Float) (s : SquareSweep) where
@@ -86,7 +85,7 @@ module _ (a : Account) (o : List Float) (s : SquareSweep) where
   closes : (r : Bool) → Agrees (close (a .elapsed) (samplesOf a o) r (a .end) (a .unused) s) (ended r a)
   unfolding close ended
   closes true = refl
-  closes false = judges (classify (ratesOf a) (momentsOf a) (marksOf a) (a .duration)) (a .unused)
+  closes false = judges (accountClass a) (a .unused)
 
 -- ---- one call
 abbrev pub Follows : Probe → Account → Type 0

@@ -19,15 +19,18 @@ use Rattle.account.specs.declared.Noisy.the-variants.{Absent, Present}
 use Rattle.account.specs.Rules.{positive, overrun, refusal}
 use Rattle.account.specs.Probe.{Call, Probe, clock, takes, extend, close, tick, answer, step, fresh, after}
 
--- rule 7
-pub in-time : (e : Float) (ticks : ℕ) (dt : Float) → refusal (some e) ticks dt ≡ 0 → lt (whole32 4096) (add binary32 e dt) ≡ false
+-- a call that rules 6 and 7 let pass
+pub passed : (e : Float) (ticks : ℕ) (dt : Float) → refusal (some e) ticks dt ≡ 0 → (positive dt ≡ true) × (lt (whole32 4096) (add binary32 e dt) ≡ false)
 unfolding refusal overrun
-in-time e ticks dt = go (positive dt) (lt (whole32 4096) (add binary32 e dt)) (leb 16_777_216 ticks)
+passed e ticks dt = go (positive dt) (lt (whole32 4096) (add binary32 e dt)) (leb 16_777_216 ticks)
   where
-    go : (p l m : Bool) → _≡_ {A = ℕ} (cond p (cond l 7 (cond m 8 0)) 6) 0 → l ≡ false
+    go : (p l m : Bool) → _≡_ {A = ℕ} (cond p (cond l 7 (cond m 8 0)) 6) 0 → (p ≡ true) × (l ≡ false)
     go false l m h = absurd (omega arith)
     go true true m h = absurd (omega arith)
-    go true false m h = refl
+    go true false m h = (refl, refl)
+
+pub in-time : (e : Float) (ticks : ℕ) (dt : Float) → refusal (some e) ticks dt ≡ 0 → lt (whole32 4096) (add binary32 e dt) ≡ false
+in-time e ticks dt h = passed e ticks dt h .1
 
 module _ (now : Float) (w : Samples) where
   extends : (x : Noisy) (end : Float) (u : Noisy) (s : SquareSweep) → Safe s → Safe (extend now w x end u s .sweep)

@@ -42,6 +42,10 @@ momentsOf a = map (λ (e : Entry). e .moment) (a .entries)
 abbrev pub marksOf : Account → List Bool
 marksOf a = map (λ (e : Entry). e .held) (a .entries)
 
+-- the class of its window
+abbrev pub accountClass : Account → Classified
+accountClass a = classify (ratesOf a) (momentsOf a) (marksOf a) (a .duration)
+
 -- "It starts at elapsed 0, ticks 0, no entries, window duration 0, end time duration_s, extension unused, running."
 unfoldable pub opened : IdentifyConfig → Account
 opened c = record {
@@ -97,7 +101,7 @@ judged Saturated unused a = record { end = a .end; unused = unused; running = fa
 -- "If elapsed is then below the end time, the account goes on. Otherwise its entries are classified as above."
 unfoldable pub ended : Bool → Account → Going
 ended true a = record { end = a .end; unused = a .unused; running = true }
-ended false a = judged (classify (ratesOf a) (momentsOf a) (marksOf a) (a .duration)) (a .unused) a
+ended false a = judged (accountClass a) (a .unused) a
 
 -- a call accepted while running
 unfoldable pub accept : Account → Call → Account

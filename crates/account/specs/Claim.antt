@@ -22,7 +22,7 @@ use Rattle.delay.specs.Tie.{delayToFit}
 use Rattle.rows.specs.Rows.{regressors, sumsBy, sumTicks, windowSums, noSums}
 use Rattle.recorded.specs.declared.Classified.{Classified}
 use Rattle.recorded.specs.declared.Classified.the-variants as class
-use Rattle.recorded.specs.Classify.{tieShare, solvedAt, classify}
+use Rattle.recorded.specs.Classify.{tieShare, solvedAt}
 use Rattle.recorded.specs.Classify as recorded
 use Rattle.lags.specs.Lags.{lagged}
 use Rattle.gain.specs.Gain.{firstTick, stepCount, wholeTicksOf, isHalf, blend, regressor}
@@ -33,11 +33,7 @@ use Rattle.finite_model.specs.FiniteModel.{FiniteModel}
 use Rattle.account.specs.declared.IdentifyConfig.{IdentifyConfig}
 use Rattle.account.specs.declared.IdentifyStatus.the-variants.{Done}
 use Rattle.account.specs.Probe.{Call, Probe, clock, delayOf, stands, fresh, replies, number}
-use Rattle.account.specs.Account.{Account, opened, account, turned, turnedBack, accepted, time, ratesOf, momentsOf, marksOf, runsOf}
-
--- the class of the account's window
-abbrev pub accountClass : Account → Classified
-accountClass a = classify (ratesOf a) (momentsOf a) (marksOf a) (a .duration)
+use Rattle.account.specs.Account.{Account, opened, account, turned, turnedBack, accepted, time, ratesOf, momentsOf, marksOf, accountClass, runsOf}
 
 -- the position that the tie rule gives for the account's entries, in the recorded fit and in the integrated one
 abbrev pub recordedPosition : Account → Position

@@ -33,9 +33,9 @@ use Rattle.integrated.specs.declared.Fitted.{Fitted}
 use Rattle.integrated.specs.declared.Fitted.the-variants.{Nothing, Model}
 use Rattle.integrated.specs.Integrated.{modelOf, modelled, noModel, chosenFrom, chosenAt, searched, meanDt, windowFit, fitLong, fitIntegrated, newerShare, olderShare, entries}
 use Rattle.finite_model.specs.FiniteModel.{FiniteF32, FiniteModel}
-use Rattle.finite_model.proofs.Multiples.{U, Of, own, held-of, counted, of-finite, add-plus, add-minus, neg-of, zero-held, Within, whole-within, mul-under}
-use Rattle.finite_model.proofs.Trials.{InUnit, one-held, trials}
-use Rattle.finite_model.proofs.Poles.{Plus, mean-tick, narrowed-fits, zero-in, pole-in-unit}
+use Rattle.finite_model.proofs.Multiples.{U, Of, own, held-of, counted, of-finite, add-plus, add-minus, neg-of, zero-held, NonNegative, Within, whole-within, mul-under}
+use Rattle.finite_model.proofs.Trials.{ZeroToOne, one-held, trials}
+use Rattle.finite_model.proofs.Poles.{mean-tick, narrowed-fits, zero-in, pole-in}
 
 -- ---- a fit's gain is a finite f32, whatever the pole
 abbrev Gains : (Float → GainFit) → Type 0
@@ -70,7 +70,7 @@ gains carry u rate n s pole g r e = solved-gain _ _ _ _ _ _ g r e
 
 -- ---- a candidate whose pole lies in 0 to 1, with such a gain
 record Good (b : LagFit) : Type 0 where
-  pole : InUnit (b .pole)
+  pole : ZeroToOne (b .pole)
   gain : FiniteF32 (b .gain)
 
 better-good : (best kept : LagFit) → Good best → Good kept → Good (betterOf best kept)
@@ -82,7 +82,7 @@ better-good best kept p q = go (lt (kept .residual) (best .residual))
     go false = p
 
 -- ---- the refinement keeps it so
-golden-good : (fit : Float → GainFit) → Gains fit → (n : ℕ) (low high : Float) (best : LagFit) (made : ℕ) → InUnit low → InUnit high → Good best
+golden-good : (fit : Float → GainFit) → Gains fit → (n : ℕ) (low high : Float) (best : LagFit) (made : ℕ) → ZeroToOne low → ZeroToOne high → Good best
     → Good (golden fit n low high best made .best)
 unfolding golden
 golden-good fit g zero low high best made l h p = p
@@ -100,7 +100,7 @@ golden-good fit g (suc n) low high best made l h p =
     pick false x y p q = q
 
     go : (x y : GainFit) → fit (leftOf low high) ≡ x → fit (rightOf low high) ≡ y
-        → ((l h : Float) (b : LagFit) → InUnit l → InUnit h → Good b → Good (golden fit n l h b (suc made) .best))
+        → ((l h : Float) (b : LagFit) → ZeroToOne l → ZeroToOne h → Good b → Good (golden fit n l h b (suc made) .best))
         → Good (onward (tried low high best x y) (λ l h b. golden fit n l h b (suc made)) (record { best = best; rounds = suc made }) .best)
     go gain.Nothing y e f more = unfold tried in p
     go (gain.Fit lg lr) gain.Nothing e f more = unfold tried in p
@@ -114,23 +114,23 @@ golden-good fit g (suc n) low high best made l h p =
 -- ---- and so does the grid, with its brackets
 record Bracketed (b : LagFit) : Type 0 where
   good : Good b
-  low : InUnit (b .low)
-  high : InUnit (b .high)
+  low : ZeroToOne (b .low)
+  high : ZeroToOne (b .high)
 
 refined-good : (fit : Float → GainFit) (b : LagFit) → Gains fit → Bracketed b → Good (refined fit b .best)
 unfolding refined
 refined-good fit b g p = golden-good fit g maxRounds (b .low) (b .high) b 0 (p .low) (p .high) (p .good)
 
-module _ (dt : Float) (poles : (i : ℕ) → InUnit (poleOf dt i)) where
-  low-in : (i : ℕ) → InUnit (lowEnd (poleOf dt) i)
+module _ (dt : Float) (poles : (i : ℕ) → ZeroToOne (poleOf dt i)) where
+  low-in : (i : ℕ) → ZeroToOne (lowEnd (poleOf dt) i)
   unfolding lowEnd
   low-in zero = zero-in
   low-in (suc i) = poles i
 
-  high-in : (last i : ℕ) → InUnit (highEnd (poleOf dt) last i)
+  high-in : (last i : ℕ) → ZeroToOne (highEnd (poleOf dt) last i)
   high-in last i = go (ltb i last)
     where
-      go : (b : Bool) → InUnit (pickEnd b (poleOf dt (i + 1)) (poleOf dt i))
+      go : (b : Bool) → ZeroToOne (pickEnd b (poleOf dt (i + 1)) (poleOf dt i))
       go true = poles (i + 1)
       go false = poles i
 
@@ -158,19 +158,19 @@ one-of : Of one32 false U
 unfolding ofBits
 one-of = (refl, refl)
 
-one-more : (x : Float) → InUnit x → FiniteF32 (add binary32 one32 x)
+one-more : (x : Float) → ZeroToOne x → FiniteF32 (add binary32 one32 x)
 one-more x p =
     rw (add-plus one32 x U (p .count) one-of (p .is))
     (within-finite false 0 (U + U) _ (whole-within 0 (U + U) (U + p .count) zero-held (own 1 150 (lit< tt) (lit< tt)) zero-le (add-le-add (le-refl U) (p .to))))
 
-one-less : (x : Float) → InUnit x → InUnit (sub binary32 one32 x)
+one-less : (x : Float) → ZeroToOne x → ZeroToOne (sub binary32 one32 x)
 unfolding sub
 one-less x p =
     rw (add-minus one32 (neg x) U (p .count) one-of (neg-of x false (p .count) (p .is)) (p .to))
     (whole-within 0 U (U - p .count) zero-held one-held zero-le (sub-le U (p .count)))
 
 -- share · gain · (1 - pole), for a share in 0 to 1
-weighed : (share g y : Float) → InUnit share → FiniteF32 g → InUnit y → FiniteF32 (mul binary32 (mul binary32 share g) y)
+weighed : (share g y : Float) → ZeroToOne share → FiniteF32 g → ZeroToOne y → FiniteF32 (mul binary32 (mul binary32 share g) y)
 weighed share g y p f q =
     let c = counted g f in
     let s = unlike false (c .sign) in
@@ -179,16 +179,16 @@ weighed share g y p f q =
     within-finite (unlike s false) 0 (r .count) _
     (mul-under (mul binary32 share g) y s false (r .count) (q .count) (r .count) (r .is) (q .is) (held-of (mul binary32 share g) s (r .count) (r .held) (r .is)) (mul-le-mul-left (r .count) (q .to)))
 
-half-in : InUnit (ofBits binary32 0x3f00_0000)
+half-in : ZeroToOne (ofBits binary32 0x3f00_0000)
 unfolding ofBits fits
 half-in = record { count = 2 ^ 148; is = (refl, refl); held = tt; from = zero-le; to = lit≤ tt }
 
-newer-in : (h : ℕ) → InUnit (newerShare h)
+newer-in : (h : ℕ) → ZeroToOne (newerShare h)
 unfolding ofBits fits
 newer-in zero = record { count = U; is = one-of; held = tt; from = zero-le; to = le-refl U }
 newer-in (suc h) = half-in
 
-older-in : (h : ℕ) → InUnit (olderShare h)
+older-in : (h : ℕ) → ZeroToOne (olderShare h)
 older-in zero = zero-in
 older-in (suc h) = half-in
 
@@ -217,7 +217,7 @@ module _ (dt : Float) (k : ℕ) (t : Within false 0 k dt) (fit : ℕ → Float �
   from-kept p Empty e = tt
   from-kept p (Best b) e =
       let s = p - 1 in
-      model-finite (refined (fit s) b .best) p dt (refined-good (fit s) b (g s) (kept-good dt (pole-in-unit dt k t) fit s b (g s) e)) (within-finite false 0 k dt t)
+      model-finite (refined (fit s) b .best) p dt (refined-good (fit s) b (g s) (kept-good dt (pole-in dt k t) fit s b (g s) e)) (within-finite false 0 k dt t)
 
   from-position : (q : Position) → Holds (chosenAt q dt fit .fitted)
   unfolding chosenAt noModel
@@ -232,7 +232,7 @@ window-gains : (rates moments : List Float) (dt : Float) (n s : ℕ) → Gains (
 unfolding windowFit
 window-gains rates moments dt n s = gains (carryOf dt) (at moments) (at rates) (n - firstTick) s
 
-all-finite : (rates moments : List Float) (duration : Float) → Plus duration → Holds (fitIntegrated rates moments duration .fitted)
+all-finite : (rates moments : List Float) (duration : Float) → NonNegative duration → Holds (fitIntegrated rates moments duration .fitted)
 unfolding fitIntegrated fitLong noModel
 all-finite rates moments duration d = go (leb (length rates) (firstTick + 1)) refl
   where
@@ -244,5 +244,5 @@ all-finite rates moments duration d = go (leb (length rates) (firstTick + 1)) re
         let t = mean-tick duration n d (let l = leb-false n (firstTick + 1) e in omega arith) in
         searched-finite dt (t .0) (t .1) (windowFit rates moments dt n) (window-gains rates moments dt n)
 
-pub integrated-finite : (rates moments : List Float) (duration : Float) (m : RateModel) → Plus duration → fitIntegrated rates moments duration .fitted ≡ Model m → FiniteModel m
+pub integrated-finite : (rates moments : List Float) (duration : Float) (m : RateModel) → NonNegative duration → fitIntegrated rates moments duration .fitted ≡ Model m → FiniteModel m
 integrated-finite rates moments duration m d e = subst Holds e (all-finite rates moments duration d)

@@ -1,5 +1,6 @@
 -- Each finite f32 is a whole multiple of the smallest one, 2^-149. What is rounded stays between any two of these multiples; sums, differences and products are said by them.
 use mathlib.Core.Path.{_≡_, refl, sym, ap, _∙_, subst}
+use mathlib.Core.Logic.{⊎-elim}
 use mathlib.Core.Bool.{Bool, true, false, not, cond, _&&_, true≢false}
 use Prim.Native.Nat.{ℕ, zero, suc, _+_, _-_, _*_, _%_, _^_, _≤_, _<_, zero-le}
 use native.Mathlib.Nat.{le-of-eq, le-trans, lt-of-not-le, le-of-suc-le-suc, not-le-of-lt, zero-mul, mul-one, mul-comm, mul-assoc, mul-right-comm, mul-mul-mul-comm, mul-le-mul-right, mul-lt-mul-of-pos-right, le-of-mul-le-mul-right, lt-of-mul-lt-mul-right, eq-of-mul-eq-mul-right, mul-pos, mul-sub, add-mul}
@@ -15,8 +16,9 @@ use lib.Ieee.Order.{round-mono, kept, drop}
 use lib.Ieee.Scale.{grid, round-val, round-same}
 use Rattle.float.specs.Values.{finite}
 use Rattle.float.proofs.Between.{under, no-inf}
+use Rattle.float.proofs.Digits.{lt-or-ge}
 use Rattle.float.proofs.ExpUnit.{zero-exponent}
-use Rattle.float.proofs.Signed.{Signed}
+use Rattle.float.proofs.Signs.{Signed}
 use Rattle.finite_model.specs.FiniteModel.{FiniteF32}
 
 -- how many of the smallest make 1
@@ -88,6 +90,11 @@ counted (fin u m e) f =
     let q = place m e (limits u m e (f .held) .deep) in
     record { sign = u; count = m * 2 ^ (q .0); is = (refl, q .1); held = held-of (fin u m e) u (m * 2 ^ (q .0)) (f .held) (refl, q .1) }
 
+-- one with no minus sign
+pub record NonNegative (x : Float) : Type 0 where
+  pub real : FiniteF32 x
+  pub plus : Signed false x
+
 pub of-plus : (x : Float) (n : ℕ) (s : Bool) → Of x s n → Signed false x → Of x false n
 of-plus nan n s p q = p
 of-plus (inf u) n s p q = p
@@ -139,67 +146,49 @@ sub-mul m n k = mul-comm (m - n) k ∙ mul-sub k m n ∙ ap (λ (x : ℕ). x - k
 
 -- A / c and B / c, which are a and b of the smallest
 module _ (A B c a b : ℕ) (C : 0 < c) (p : A * U ≡ a * c) (q : B * U ≡ b * c) where
-  sum-plus : sum binary32 false A false B c ≡ round binary32 false (a + b) U
-  unfolding sum
-  sum-plus = round-same binary32 false (A + B) c (a + b) U C (pow-pos 149) (add-mul A B U ∙ ap (λ (x : ℕ). x + B * U) p ∙ ap (λ (x : ℕ). a * c + x) q ∙ sym (add-mul a b c))
+  compares : ltb A B ≡ ltb a b
+  compares =
+      ⊎-elim
+      (λ (h : a < b). lt-ltb A B (lt-of-mul-lt-mul-right U (subst (λ (x : ℕ). x < B * U) (sym p) (subst (λ (x : ℕ). a * c < x) (sym q) (mul-lt-mul-of-pos-right h C)))) ∙ sym (lt-ltb a b h))
+      (λ (h : b ≤ a). le-ltb A B (le-of-mul-le-mul-right (le-trans (le-of-eq q) (le-trans (mul-le-mul-right c h) (le-of-eq (sym p)))) (pow-pos 149)) ∙ sym (le-ltb a b h))
+      (lt-or-ge a b)
 
-  sum-minus : b ≤ a → sum binary32 false A true B c ≡ round binary32 false (a - b) U
-  unfolding sum
-  sum-minus h =
-      let l : B ≤ A = le-of-mul-le-mul-right (le-trans (le-of-eq q) (le-trans (mul-le-mul-right c h) (le-of-eq (sym p)))) (pow-pos 149) in
-      rw (le-ltb A B l)
-      (round-same binary32 false (A - B) c (a - b) U C (pow-pos 149) (sub-mul A B U ∙ ap (λ (x : ℕ). x - B * U) p ∙ ap (λ (x : ℕ). a * c - x) q ∙ sym (sub-mul a b c)))
+  plus : (s : Bool) → round binary32 s (A + B) c ≡ round binary32 s (a + b) U
+  plus s = round-same binary32 s (A + B) c (a + b) U C (pow-pos 149) (add-mul A B U ∙ ap (λ (x : ℕ). x + B * U) p ∙ ap (λ (x : ℕ). a * c + x) q ∙ sym (add-mul a b c))
 
-  sum-under : a < b → sum binary32 false A true B c ≡ round binary32 true (b - a) U
-  unfolding sum
-  sum-under h =
-      let k : a * c < b * c = mul-lt-mul-of-pos-right h C in
-      let k' : A * U < B * U = subst (λ (x : ℕ). x < B * U) (sym p) (subst (λ (x : ℕ). a * c < x) (sym q) k) in
-      let l : A < B = lt-of-mul-lt-mul-right U k' in
-      rw (lt-ltb A B l)
-      (round-same binary32 true (B - A) c (b - a) U C (pow-pos 149) (sub-mul B A U ∙ ap (λ (x : ℕ). x - A * U) q ∙ ap (λ (x : ℕ). b * c - x) p ∙ sym (sub-mul b a c)))
+  minus : (s : Bool) → round binary32 s (A - B) c ≡ round binary32 s (a - b) U
+  minus s = round-same binary32 s (A - B) c (a - b) U C (pow-pos 149) (sub-mul A B U ∙ ap (λ (x : ℕ). x - B * U) p ∙ ap (λ (x : ℕ). a * c - x) q ∙ sym (sub-mul a b c))
 
-left-scale : (X dx dy a : ℕ) → X * U ≡ a * dx → X * dy * U ≡ a * (dx * dy)
-left-scale X dx dy a p = mul-right-comm X dy U ∙ ap (λ (x : ℕ). x * dy) p ∙ mul-assoc a dx dy
+sum-is : (A B c a b : ℕ) (s t : Bool) → 0 < c → A * U ≡ a * c → B * U ≡ b * c → sum binary32 s A t B c ≡ sum binary32 s a t b U
+unfolding sum
+sum-is A B c a b s t C p q = rw (compares A B c a b C p q, compares B A c b a C q p, plus A B c a b C p q s, minus B A c b a C q p t, minus A B c a b C p q (s && ltb b a))
 
-right-scale : (Y dx dy b : ℕ) → Y * U ≡ b * dy → Y * dx * U ≡ b * (dx * dy)
-right-scale Y dx dy b q = left-scale Y dy dx b q ∙ ap (λ (x : ℕ). b * x) (mul-comm dy dx)
+scaled : (X dx dy a : ℕ) → X * U ≡ a * dx → X * dy * U ≡ a * (dx * dy)
+scaled X dx dy a p = mul-right-comm X dy U ∙ ap (λ (x : ℕ). x * dy) p ∙ mul-assoc a dx dy
+
+add-is : (x y : Float) (s t : Bool) (a b : ℕ) → Of x s a → Of y t b → add binary32 x y ≡ sum binary32 s a t b U
+unfolding add
+add-is nan y s t a b p q = absurd p
+add-is (inf u) y s t a b p q = absurd p
+add-is (fin u m e) nan s t a b p q = absurd q
+add-is (fin u m e) (inf v) s t a b p q = absurd q
+add-is (fin u m e) (fin v n d) s t a b p q =
+    sum-is (m * up e * down d) (n * up d * down e) (down e * down d) a b u v (mul-pos (down-pos e) (down-pos d))
+    (scaled (m * up e) (down e) (down d) a (p .1)) (scaled (n * up d) (down d) (down e) b (q .1) ∙ ap (λ (x : ℕ). b * x) (mul-comm (down d) (down e)))
+    ∙ ap (λ (z : Bool). sum binary32 z a v b U) (p .0)
+    ∙ ap (λ (z : Bool). sum binary32 s a z b U) (q .0)
 
 pub add-plus : (x y : Float) (a b : ℕ) → Of x false a → Of y false b → add binary32 x y ≡ round binary32 false (a + b) U
-unfolding add
-add-plus nan y a b p q = absurd p
-add-plus (inf s) y a b p q = absurd p
-add-plus (fin true m e) y a b p q = absurd (true≢false (p .0))
-add-plus (fin false m e) nan a b p q = absurd q
-add-plus (fin false m e) (inf t) a b p q = absurd q
-add-plus (fin false m e) (fin true n d) a b p q = absurd (true≢false (q .0))
-add-plus (fin false m e) (fin false n d) a b p q =
-    sum-plus (m * up e * down d) (n * up d * down e) (down e * down d) a b (mul-pos (down-pos e) (down-pos d))
-    (left-scale (m * up e) (down e) (down d) a (p .1)) (right-scale (n * up d) (down e) (down d) b (q .1))
+unfolding sum
+add-plus x y a b p q = add-is x y false false a b p q
 
 pub add-minus : (x y : Float) (a b : ℕ) → Of x false a → Of y true b → b ≤ a → add binary32 x y ≡ round binary32 false (a - b) U
-unfolding add
-add-minus nan y a b p q h = absurd p
-add-minus (inf s) y a b p q h = absurd p
-add-minus (fin true m e) y a b p q h = absurd (true≢false (p .0))
-add-minus (fin false m e) nan a b p q h = absurd q
-add-minus (fin false m e) (inf t) a b p q h = absurd q
-add-minus (fin false m e) (fin false n d) a b p q h = absurd (true≢false (sym (q .0)))
-add-minus (fin false m e) (fin true n d) a b p q h =
-    sum-minus (m * up e * down d) (n * up d * down e) (down e * down d) a b (mul-pos (down-pos e) (down-pos d))
-    (left-scale (m * up e) (down e) (down d) a (p .1)) (right-scale (n * up d) (down e) (down d) b (q .1)) h
+unfolding sum
+add-minus x y a b p q h = add-is x y false true a b p q ∙ rw (le-ltb a b h)
 
 pub add-under : (x y : Float) (a b : ℕ) → Of x false a → Of y true b → a < b → add binary32 x y ≡ round binary32 true (b - a) U
-unfolding add
-add-under nan y a b p q h = absurd p
-add-under (inf s) y a b p q h = absurd p
-add-under (fin true m e) y a b p q h = absurd (true≢false (p .0))
-add-under (fin false m e) nan a b p q h = absurd q
-add-under (fin false m e) (inf t) a b p q h = absurd q
-add-under (fin false m e) (fin false n d) a b p q h = absurd (true≢false (sym (q .0)))
-add-under (fin false m e) (fin true n d) a b p q h =
-    sum-under (m * up e * down d) (n * up d * down e) (down e * down d) a b (mul-pos (down-pos e) (down-pos d))
-    (left-scale (m * up e) (down e) (down d) a (p .1)) (right-scale (n * up d) (down e) (down d) b (q .1)) h
+unfolding sum
+add-under x y a b p q h = add-is x y false true a b p q ∙ rw (lt-ltb a b h)
 
 pub neg-of : (x : Float) (s : Bool) (n : ℕ) → Of x s n → Of (neg x) (not s) n
 unfolding neg

@@ -14,14 +14,13 @@ use lib.Ieee.Positive.{above, above-of-le, le→cross, mul-mono}
 use Rattle.float.specs.Values.{zero32, one32, whole32, finite}
 use Rattle.float.specs.Narrow.{narrowed}
 use Rattle.float.specs.Exp.{expOf}
-use Rattle.float.proofs.Signed.{Signed, round-signed}
+use Rattle.float.proofs.Signs.{Signed, round-signed}
 use Rattle.float.proofs.Unit.{Small}
 use Rattle.float.proofs.ExpUnit.{exp-small}
 use Rattle.lags.specs.Lags.{leastLag, lagRatio, lagOf, poleOf}
 use Rattle.integrated.specs.Integrated.{meanDt}
-use Rattle.finite_model.specs.FiniteModel.{FiniteF32}
-use Rattle.finite_model.proofs.Multiples.{U, Of, Held, counted, of-plus, Within, round-under}
-use Rattle.finite_model.proofs.Trials.{InUnit}
+use Rattle.finite_model.proofs.Multiples.{U, Of, Held, counted, NonNegative, of-plus, Within, round-under}
+use Rattle.finite_model.proofs.Trials.{ZeroToOne}
 
 -- ---- a quotient by 1 or more is no larger
 abbrev FromOne : Float → Type 0
@@ -68,12 +67,8 @@ unfolding ofInt
 whole-from-one n h =
     from-one (round binary32 false n 1) (subst (λ (z : Float). T (le z (round binary32 false n 1))) one-rounds (round-mono binary32 1 1 n 1 (lit< tt) (lit< tt) (let r : 1 * 1 ≤ n * 1 = omega arith in r)))
 
--- ---- the mean tick, of a duration that is finite and has no minus sign
-pub record Plus (x : Float) : Type 0 where
-  pub real : FiniteF32 x
-  pub plus : Signed false x
-
-pub mean-tick : (duration : Float) (n : ℕ) → Plus duration → 1 ≤ n → (k : ℕ) × Within false 0 k (meanDt duration n)
+-- ---- the mean tick
+pub mean-tick : (duration : Float) (n : ℕ) → NonNegative duration → 1 ≤ n → (k : ℕ) × Within false 0 k (meanDt duration n)
 mean-tick duration n p h =
     let c = counted duration (p .real) in
     (c .count, div-under duration (whole32 n) (c .count) (of-plus duration (c .count) (c .sign) (c .is) (p .plus)) (c .held) (whole-from-one n h))
@@ -145,24 +140,24 @@ exp-fits : (x : Float) → T (fits binary32 (expOf x))
 unfolding expOf
 exp-fits x = cond-fits binary32 (lt x (ofInt binary64 (negsuc 103))) zero32 _ zero-fits (narrowed-fits _)
 
-in-unit : (y : Float) → Small false y → T (fits binary32 y) → InUnit y
+zero-to-one : (y : Float) → Small false y → T (fits binary32 y) → ZeroToOne y
 unfolding finite
-in-unit nan p f = absurd p
-in-unit (inf s) p f = absurd p
-in-unit (fin s m e) p f =
+zero-to-one nan p f = absurd p
+zero-to-one (inf s) p f = absurd p
+zero-to-one (fin s m e) p f =
     let c = counted (fin s m e) (record { real = refl; held = f }) in
     let is : Of (fin s m e) false (c .count) = of-plus (fin s m e) (c .count) (c .sign) (c .is) (p .0) in
     let small : m * up e ≤ down e = le-trans (le-of-eq (sym (mul-one (m * up e)))) (le-trans (p .2) (le-of-eq (one-mul (down e)))) in
     let to : c .count * down e ≤ U * down e = le-trans (le-of-eq (sym (is .1))) (le-trans (mul-le-mul-right U small) (le-of-eq (mul-comm (down e) U))) in
     record { count = c .count; is = is; held = f; from = zero-le; to = le-of-mul-le-mul-right to (down-pos e) }
 
-pub zero-in : InUnit zero32
+pub zero-in : ZeroToOne zero32
 unfolding ofBits
 zero-in = record { count = 0; is = (refl, refl); held = zero-fits; from = zero-le; to = zero-le }
 
-pub pole-in-unit : (dt : Float) (k : ℕ) → Within false 0 k dt → (i : ℕ) → InUnit (poleOf dt i)
+pub pole-in : (dt : Float) (k : ℕ) → Within false 0 k dt → (i : ℕ) → ZeroToOne (poleOf dt i)
 unfolding poleOf
-pole-in-unit dt k t zero = zero-in
-pole-in-unit dt k t (suc i) =
+pole-in dt k t zero = zero-in
+pole-in dt k t (suc i) =
     let x = div binary32 (neg dt) (lagOf i) in
-    in-unit (expOf x) (exp-small x (div-fits binary32 (neg dt) (lagOf i)) (minus-low x (minus-over dt (lagOf i) (t .count) (t .is) (lag-above i)))) (exp-fits x)
+    zero-to-one (expOf x) (exp-small x (div-fits binary32 (neg dt) (lagOf i)) (minus-low x (minus-over dt (lagOf i) (t .count) (t .is) (lag-above i)))) (exp-fits x)

@@ -153,14 +153,14 @@ module _ (low high : Float) (a b : ℕ) (p : Of low false a) (q : Of high false 
       }
 
 -- 0 to 1
-abbrev pub InUnit : Float → Type 0
-InUnit x = Within false 0 U x
+abbrev pub ZeroToOne : Float → Type 0
+ZeroToOne x = Within false 0 U x
 
-within : (lo hi : ℕ) (x : Float) → hi ≤ U → Within false lo hi x → InUnit x
+within : (lo hi : ℕ) (x : Float) → hi ≤ U → Within false lo hi x → ZeroToOne x
 within lo hi x h r = record { count = r .count; is = r .is; held = r .held; from = zero-le; to = le-trans (r .to) h }
 
 -- trials between two ends in 0 to 1 are in 0 to 1
-pub trials : (low high : Float) → InUnit low → InUnit high → Trials 0 U low high
+pub trials : (low high : Float) → ZeroToOne low → ZeroToOne high → Trials 0 U low high
 trials low high p q = ⊎-elim down up (lt-or-ge (q .count) (p .count))
   where
     wide : (lo hi : ℕ) → hi ≤ U → Trials lo hi low high → Trials 0 U low high

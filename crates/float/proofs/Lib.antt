@@ -8,7 +8,6 @@ pub mod Rounding
 pub mod NarrowFields
 pub mod WholeRoot
 pub mod Signs
-pub mod Signed
 pub mod RootFields
 pub mod ExpSteps
 pub mod RootNear

@@ -1,18 +1,41 @@
--- What the sign's bit of an f32's pattern says, and what a function that keeps infinity, or gives NaN below 0, makes of such a pattern.
+-- Rounding keeps a sign. What the sign's bit of an f32's pattern says, and what a function that keeps infinity, or gives NaN below 0, makes of such a pattern.
 use mathlib.Core.Path.{_≡_, refl, sym, ap, _∙_, subst}
 use mathlib.Core.Bool.{Bool, true, false, not, cond, true≢false}
 use Prim.Native.Nat.{ℕ, zero, suc, _+_, _-_, _*_, _/_, _%_, _^_, _≤_, _<_}
 use native.Mathlib.Nat.{lt-irrefl, zero-mul, div-eq-of-lt}
 use native.Mathlib.Omega.{arith}
 use lib.Arith.{lt→nleb}
-use lib.Dec.{T, leb, le→leb, eqb}
+use lib.Dec.{T, ltb, leb, le→leb, eqb}
 use lib.IntN.{ℤ}
-use lib.Ieee.{Float, nan, inf, fin, binary32, odd, size, up, down, ofFields, ofBits, toBits, isNan, fits}
-use lib.Ieee.Fits.{down-pos}
+use lib.Ieee.{Float, Format, nan, inf, fin, binary32, prec, emax, low, odd, units, round, size, up, down, ofFields, ofBits, toBits, isNan, fits}
+use lib.Ieee.Fits.{down-pos, round-is}
+use lib.Ieee.Order.{kept, drop}
 use lib.Ieee.Bits.{ofBits-toBits, is-true, is-false}
 use Rattle.float.proofs.Fields.{own, by-fields, infinite}
 
--- a pattern below the sign's bit
+-- ---- rounding keeps the sign of what is no NaN
+abbrev pub Signed : Bool → Float → Type 0
+Signed s nan = ⊥
+Signed s (inf t) = t ≡ s
+Signed s (fin t m e) = t ≡ s
+
+odd-signed : (d : ℕ) (s : Bool) (q k l : ℕ) → Signed s (odd d s q k l)
+unfolding odd
+odd-signed d s zero k l = refl
+odd-signed d s (suc q) k l = refl
+
+units-signed : (f : Format) (s : Bool) (q k : ℕ) → Signed s (units f s q k)
+unfolding units
+units-signed f s q k = go (ltb (q * 2 ^ k) (2 ^ (low f + suc (emax f))))
+  where
+    go : (b : Bool) → Signed s (cond b (odd (suc (prec f)) s q k (low f)) (inf s))
+    go true = odd-signed (suc (prec f)) s q k (low f)
+    go false = refl
+
+pub round-signed : (f : Format) (s : Bool) (a c : ℕ) → Signed s (round f s a c)
+round-signed f s a c = subst (Signed s) (sym (round-is f s a c)) (units-signed f s (kept (prec f) (a * 2 ^ low f) c) (drop (prec f) (a * 2 ^ low f) c))
+
+-- ---- a pattern below the sign's bit
 pub unsigned : (b : ℕ) → b < 2 ^ 31 → ofBits binary32 b ≡ ofFields binary32 false (b % 2 ^ 31 / 2 ^ 23) (b % 2 ^ 23)
 unsigned b h = by-fields binary32 b ∙ ap (λ (z : Bool). ofFields binary32 z (b % 2 ^ 31 / 2 ^ 23) (b % 2 ^ 23)) (is-false (leb (2 ^ 31) b) (lt→nleb (2 ^ 31) b h))
 

@@ -22,7 +22,7 @@ kind-small (Done m) = lit< tt
 kind-small Unexcited = lit< tt
 kind-small Saturated = lit< tt
 
-pub six-floats : (s : IdentifyStatus) → length (floatsOf s) ≡ 6
+six-floats : (s : IdentifyStatus) → length (floatsOf s) ≡ 6
 unfolding floatsOf
 six-floats (Running e) = refl
 six-floats (Done m) = refl
@@ -59,8 +59,14 @@ first-small r = omega (arith, kind-small (r .status), first-bits r)
 pub kind-first : (r : Report) → packed 0 (fieldsOf r) / 2 ^ 64 / 2 ^ 30 ≡ kindOf (r .status)
 kind-first r = omega (arith, kind-small (r .status), first-bits r)
 
--- the nine words
-pub report-words : (r : Report) → reportBytes r ≡ wordBytes (packed 0 (fieldsOf r) / 2 ^ 64 ∷ packed 0 (fieldsOf r) / 2 ^ 32 % 2 ^ 32 ∷ packed 0 (fieldsOf r) % 2 ^ 32 ∷ map wordOf (floatsOf (r .status)))
+-- three words of fields as one number, and six of floats
+abbrev pub nineWords : ℕ → IdentifyStatus → List ℕ
+nineWords n s = n / 2 ^ 64 ∷ n / 2 ^ 32 % 2 ^ 32 ∷ n % 2 ^ 32 ∷ map wordOf (floatsOf s)
+
+pub nine : (n : ℕ) (s : IdentifyStatus) → length (nineWords n s) ≡ 9
+nine n s = rw (length-map, six-floats)
+
+pub report-words : (r : Report) → reportBytes r ≡ wordBytes (nineWords (packed 0 (fieldsOf r)) (r .status))
 unfolding reportBytes
 report-words r =
     let n = packed 0 (fieldsOf r) in

@@ -17,7 +17,7 @@ use Rattle.float.specs.Values.{one64}
 use Rattle.float.specs.Narrow.{narrowed}
 use Rattle.float.specs.Log.{ln2, two64, logSum, zOf, logPart, logFrom, logSplit, logAt, wideLog, logOf}
 use Rattle.float.proofs.Between.{In, round-in, mul-in, div-in, add-in}
-use Rattle.float.proofs.Signed.{Signed, round-signed}
+use Rattle.float.proofs.Signs.{Signed, round-signed}
 
 wider : (s : Bool) (lo hi top : ℕ) (x : Float) → hi ≤ top → In 30 s lo hi x → In 30 s lo top x
 wider s lo hi top nan h p = p

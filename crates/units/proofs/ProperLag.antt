@@ -13,7 +13,7 @@ use lib.Ieee.Positive.{positive}
 use Rattle.float.specs.Values.{zero32, one32}
 use Rattle.float.specs.Log.{logOf}
 use Rattle.units.specs.Units.{lagOf, accelOf, unless, unitsAt, Proper, ProperLag}
-use Rattle.float.proofs.Signed.{Signed, round-signed}
+use Rattle.float.proofs.Signs.{Signed, round-signed}
 use Rattle.units.proofs.LogSign.{log-minus}
 
 zero-is : zero32 ≡ fin false 0 (pos 0)
