@@ -23,12 +23,13 @@ sys.path.insert(0, str(ROOT / "python"))
 
 import identify
 
-TICK_S = 0.004
 STEPS = 8
 """Steps of the airframe's simulation in a tick."""
 DIGITS = 5
 LAST_S = 8.4
 """Length of a log: a little past the extension's end."""
+GUST_S = 0.5
+"""How long a gust lasts."""
 
 
 @dataclass(frozen=True)
@@ -49,9 +50,12 @@ class Flight:
     """From the command to the motors."""
     trim: float = 0.0
     """A constant moment from outside, as of a load off the centre."""
+    gusts: float = 0.0
+    """Standard deviation of the angular acceleration by gusts, in rad/s2."""
     dropouts: tuple[tuple[int, int], ...] = ()
     """First and last tick of each stretch in which the gyro gives nan."""
     seconds: float = LAST_S
+    tick_s: float = 0.004
 
 
 FLIGHTS = (
@@ -69,19 +73,33 @@ class Airframe:
     flight: Flight
     rate: float = 0.0
     lagged: float = 0.0
+    gust: float = 0.0
     pipe: deque[float] = field(default_factory=deque)
 
     def __post_init__(self) -> None:
-        self.step_s = TICK_S / STEPS
+        self.wind = random.Random(f"wind {self.flight.seed}")
+        self.step_s = self.flight.tick_s / STEPS
         self.pole = math.exp(-self.step_s / self.flight.lag_s)
         self.pipe.extend([0.0] * round(self.flight.delay_s / self.step_s))
 
     def tick(self, moment: float) -> None:
         """Flies one tick with this command."""
+        self.blow()
         for _ in range(STEPS):
             self.pipe.append(moment)
             self.lagged = self.pole * self.lagged + (1 - self.pole) * self.pipe.popleft()
             self.rate += self.flight.gain * (self.lagged + self.flight.trim) * self.step_s
+
+    def blow(self) -> None:
+        """The gust of a tick: what is left of the last one, and a new one."""
+        kept = math.exp(-self.flight.tick_s / GUST_S)
+        self.gust = kept * self.gust + self.flight.gusts * math.sqrt(1 - kept * kept) * normal(self.wind)
+        self.rate += self.gust * self.flight.tick_s
+
+
+def normal(draw: random.Random) -> float:
+    """A random number of mean 0 and standard deviation 1: twelve uniform ones less six."""
+    return sum(draw.random() for _ in range(12)) - 6
 
 
 @dataclass
@@ -99,8 +117,8 @@ class Loop:
         self.noise = random.Random(self.flight.seed)
 
     def gyro(self) -> float:
-        """This tick's reading; nan in a dropout. Twelve uniform numbers less six have a deviation of 1."""
-        noise = sum(self.noise.random() for _ in range(12)) - 6
+        """This tick's reading; nan in a dropout."""
+        noise = normal(self.noise)
         tick = len(self.rates)
         if any(first <= tick <= last for first, last in self.flight.dropouts):
             return math.nan
@@ -124,8 +142,8 @@ def fly(flight: Flight, config: identify.Config) -> tuple[list[float], Loop, ide
     and may take the extension. So the library is asked twice, with zeros for the readings that are still to come: before
     the start, and again once that window is flown. A third run over the whole flight must give the offsets that were flown.
     """
-    ticks = round(flight.seconds / TICK_S)
-    dt = [TICK_S] * ticks
+    ticks = round(flight.seconds / flight.tick_s)
+    dt = [flight.tick_s] * ticks
     loop = Loop(flight)
     zeros = [0.0] * ticks
     first_leg = identify.run(dataclasses.replace(config, extension=None), dt, zeros, zeros)
@@ -145,7 +163,7 @@ def csv_text(dt: list[float], loop: Loop, report: identify.Report) -> str:
     """The log, with two columns more than the identifier reads: time and offset."""
     lines = ["time,dt,rate,moment,offset"]
     for tick, (step, rate, moment, offset) in enumerate(zip(dt, loop.rates, loop.moments, report.offsets)):
-        lines.append(f"{(tick + 1) * TICK_S:.3f},{step:.3f},{rate:.{DIGITS}f},{moment:.{DIGITS}f},{offset:.4f}")
+        lines.append(f"{(tick + 1) * step:.3f},{step:.3f},{rate:.{DIGITS}f},{moment:.{DIGITS}f},{offset:.4f}")
     return "\n".join(lines) + "\n"
 
 

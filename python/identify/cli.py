@@ -2,17 +2,21 @@
 from __future__ import annotations
 
 import argparse
-import sys
 from collections.abc import Sequence
 from typing import NoReturn
 
 from . import picture, words
+from .checks import dt_units, find_warnings
+from .flight import Flight
 from .library import LibraryError
 from .log import BadLog, read_log
+from .output import OutputError, complain, drop_output, write
 from .probe import run
-from .records import Config, ConfigRefused, Extension
+from .records import RULES, Config, ConfigRefused, Extension
 
-GOOD, NO_LIBRARY, BAD_INPUT = 0, 1, 2
+GOOD, DOUBTFUL, BAD_INPUT, NO_LIBRARY = 0, 1, 2, 3
+INTERRUPTED, CLOSED_PIPE = 130, 141
+"""As a shell tells of a program that SIGINT or SIGPIPE ended."""
 
 DESCRIPTION = "Fits how strongly, and how many ticks later, a drone's axis follows its moment, from the log of one probe."
 EPILOG = """\
@@ -24,8 +28,14 @@ Of a model, the delay is the time until the axis begins to follow a moment, the 
 follows, and the push its acceleration for a moment of 1 once the lag has settled. The pole is minus the second rate weight;
 with a pole of 1 or more there is neither lag nor push.
 
-Exit status: 0 where a report was printed, however the probe ended; 1 where the library cannot be built or loaded; 2 for bad
-input. The first use builds the library with rt and cc; IDENTIFY_LIBRARY names a ready libexports.a or libidentify.so."""
+The line `fit` tells how much of the rate's change the model explains when it is run by itself for a fifth of a second, what
+the gyro's noise takes of it, and what the model explains two ticks earlier and later. A line `warning` tells what makes the
+answer doubtful, and what to do.
+
+Exit status: 0 where a report was printed, however the probe ended; with --strict 1 for all but a model without a warning; 2
+for bad input, and where the answer or the picture cannot be written; 3 where the library cannot be built or loaded. The
+first use builds the library with rt and cc; the variable IDENTIFY_LIBRARY names a ready libexports.a or libidentify.so, and
+then nothing is built from sources."""
 
 OPTIONS_OF_RULE = {
     1: ("amplitude",),
@@ -37,7 +47,11 @@ OPTIONS_OF_RULE = {
 
 
 class Parser(argparse.ArgumentParser):
-    """A parser that complains in one line."""
+    """A parser that complains in one line, also of an output that cannot take its help."""
+
+    def print_help(self, file: object = None) -> None:
+        """Prints the help on standard output."""
+        write(self.format_help())
 
     def error(self, message: str) -> NoReturn:
         """Prints the complaint and exits."""
@@ -53,16 +67,20 @@ def make_parser() -> Parser:
     add_number(parser, "--duration", "S", "length of the excitation", plain.duration_s)
     add_number(parser, "--washout", "S", "time constant with which an edge decays", plain.washout_tc_s)
     add_number(parser, "--extension-amplitude", "RADPS", "height in the extension of a noisy window", extension.amplitude)
-    add_number(parser, "--extension-duration", "S", "length of an extended window, from the start", extension.duration_s)
+    add_number(
+        parser, "--extension-duration", "S", "length of an extended window, from the start", extension.duration_s,
+        ", or the duration where that is longer",
+    )
     parser.add_argument("--no-extension", action="store_true", help="fit a noisy window as it stands")
     parser.add_argument("--json", action="store_true", help="print one JSON object; a number that is not finite is null")
+    parser.add_argument("--strict", action="store_true", help="exit with 1 for all but a model without a warning")
     parser.add_argument("--plot", metavar="FILE", help="draw the flight into a .png or .svg (needs matplotlib)")
     return parser
 
 
-def add_number(parser: Parser, option: str, unit: str, meaning: str, default: float) -> None:
+def add_number(parser: Parser, option: str, unit: str, meaning: str, default: float, otherwise: str = "") -> None:
     """One option with a number; None where it is not given."""
-    parser.add_argument(option, metavar=unit, type=float, help=f"{meaning} (default {default:g})")
+    parser.add_argument(option, metavar=unit, type=float, help=f"{meaning} (default {default:g}{otherwise})")
 
 
 def config_of(parser: Parser, options: argparse.Namespace) -> Config:
@@ -72,13 +90,15 @@ def config_of(parser: Parser, options: argparse.Namespace) -> Config:
             if getattr(options, name) is not None:
                 parser.error(f"--no-extension excludes {option_name(name)}")
     plain, extension = Config(), Extension()
+    duration_s = given(options.duration, plain.duration_s)
     return Config(
         given(options.amplitude, plain.amplitude),
-        given(options.duration, plain.duration_s),
+        duration_s,
         given(options.washout, plain.washout_tc_s),
         None if options.no_extension else Extension(
             given(options.extension_amplitude, extension.amplitude),
-            given(options.extension_duration, extension.duration_s),
+            # An extension that nobody typed is never shorter than the duration that somebody did.
+            given(options.extension_duration, max(extension.duration_s, duration_s)),
         ),
     )
 
@@ -93,51 +113,72 @@ def option_name(name: str) -> str:
     return "--" + name.replace("_", "-")
 
 
-def refusal_words(refused: ConfigRefused, config: Config) -> str:
+def refusal_words(refused: ConfigRefused, config: Config, options: argparse.Namespace) -> str:
     """Which options the library turned back, and by which rule."""
     values = {"amplitude": config.amplitude, "duration": config.duration_s, "washout": config.washout_tc_s}
     if config.extension:
         values["extension_amplitude"] = config.extension.amplitude
         values["extension_duration"] = config.extension.duration_s
-    options = ", ".join(f"{option_name(name)} {values[name]:g}" for name in OPTIONS_OF_RULE.get(refused.rule, ()))
-    return f"{options or 'configuration'}: {refused}"
+    named = ", ".join(
+        f"{option_name(name)} {values[name]:g}{'' if getattr(options, name) is not None else ' (the default)'}"
+        for name in OPTIONS_OF_RULE.get(refused.rule, ())
+    )
+    return f"{named or 'configuration'}: {refused}"
 
 
 def main(arguments: Sequence[str] | None = None) -> int:
-    """Runs the command and returns its exit status."""
+    """Runs the command and returns its exit status, without a traceback."""
+    try:
+        return run_command(arguments)
+    except OutputError as error:
+        drop_output()
+        return complain(str(error), BAD_INPUT)
+    except BrokenPipeError:
+        drop_output()
+        return CLOSED_PIPE
+    except KeyboardInterrupt:
+        return complain("interrupted", INTERRUPTED)
+
+
+def run_command(arguments: Sequence[str] | None) -> int:
+    """Runs the command; what is wrong with its input, or its library, is a line and a status."""
     parser = make_parser()
     options = parser.parse_args(arguments)
     config = config_of(parser, options)
     try:
-        identify_flight(options, config)
+        if options.plot:
+            picture.check_name(options.plot)
+        flight = identify_flight(options.flight, config)
+        status = print_flight(flight, options)
+        if options.plot:
+            picture.draw(options.plot, flight)
+        return status
     except ConfigRefused as refused:
-        return complain(refusal_words(refused, config), BAD_INPUT)
+        return complain(refusal_words(refused, config, options), BAD_INPUT)
     except (BadLog, picture.PictureError) as error:
         return complain(str(error), BAD_INPUT)
     except LibraryError as error:
         return complain(str(error), NO_LIBRARY)
-    return GOOD
 
 
-def identify_flight(options: argparse.Namespace, config: Config) -> None:
-    """Reads the log, runs the probe, prints the report and draws the picture."""
-    if options.plot:
-        picture.check(options.plot)
-    log = read_log(options.flight)
-    report = run(config, log.dt, log.rate, log.moment)
-    if options.plot:
-        picture.draw(options.plot, log, config, report)
+def identify_flight(path: str, config: Config) -> Flight:
+    """Reads the log and runs the probe. Raises BadLog where no line of it is a call."""
+    log = read_log(path)
+    if not log.lines:
+        raise BadLog(f"{log.name}: a header line and no line below it; each line below the header is one tick")
+    flight = Flight(log, config, run(config, log.dt, log.rate, log.moment))
+    if flight.report.ticks == 0:
+        first = flight.report.refusals[0]
+        raise BadLog(
+            f"{log.name}:{log.lines[first.call]}: none of {len(log.lines)} calls was accepted; the first breaks rule "
+            f"{first.rule}, {RULES[first.rule]}. {dt_units(flight) or 'dt is the time since the last tick, in s.'}"
+        )
+    return flight
+
+
+def print_flight(flight: Flight, options: argparse.Namespace) -> int:
+    """Prints the report, in words or in JSON, and answers the status."""
+    warnings = find_warnings(flight)
     print_report = words.as_json if options.json else words.text
-    write(print_report(log, config, report))
-
-
-def write(text: str) -> None:
-    """Writes to standard output; a character that its encoding lacks, such as the ² of rad/s², becomes a question mark."""
-    encoding = sys.stdout.encoding or "utf8"
-    sys.stdout.write(text.encode(encoding, "replace").decode(encoding))
-
-
-def complain(message: str, status: int) -> int:
-    """Prints one line on standard error."""
-    print("identify: " + " ".join(message.split()), file=sys.stderr)
-    return status
+    write(print_report(flight, warnings))
+    return DOUBTFUL if options.strict and (warnings or not flight.report.model) else GOOD

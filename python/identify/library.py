@@ -1,26 +1,33 @@
 """Finds the proved library, builds it on first use, and loads it.
 
-The shared object stands in target/identify/ and is used again while it is newer than every source of the crates. The
-variable IDENTIFY_LIBRARY names a ready static or shared library (.a or .so) instead; then nothing is built from sources.
+The shared object stands in target/identify/ beside a digest of the sources that it was built from, and is used again while
+theirs is the same, whatever the files' dates are. Where it is not and there is no rt, what is there is used, and a line says
+so. The variable IDENTIFY_LIBRARY names a ready static or shared library (.a or .so) instead; then nothing is built from
+sources.
 """
 from __future__ import annotations
 
 import ctypes
 import functools
+import hashlib
 import os
+import shutil
 import subprocess
-import sys
 import tempfile
-import time
 from collections.abc import Iterator, Sequence
 from pathlib import Path
 
+from .output import note, say
+
 ROOT = Path(__file__).resolve().parents[2]
 VARIABLE = "IDENTIFY_LIBRARY"
+READY_INSTEAD = f"set {VARIABLE} to a ready libexports.a or libidentify.so"
 BUILD_COMMAND = ("rt", "staticlib", "exports")
 ARCHIVE = Path("target/staticlib/libexports.a")
 SHARED = Path("target/identify/libidentify.so")
-UNBUILT_FOLDER = "must-fail"
+DIGEST = Path("target/identify/sources.sha256")
+UNBUILT_FOLDERS = {"must-fail", "data"}
+"""Folders of the crates that a build does not read."""
 FUNCTIONS = {"identify_byte_run": 3, "identify_plain_units": 2}
 """The exported functions, and how many buffers each takes: a pointer and a length for each."""
 
@@ -34,19 +41,27 @@ def load() -> ctypes.CDLL:
     """The library with the types of its functions set, loaded once a process."""
     named = os.environ.get(VARIABLE)
     if not named:
-        return open_shared(built(ROOT))
+        return open_library(built(ROOT))
     path = Path(named).resolve()
     if not path.is_file():
         raise LibraryError(f"{VARIABLE} names {named}: no such file")
+    return open_library(path)
+
+
+def open_library(path: Path) -> ctypes.CDLL:
+    """Loads a static library (.a) or a shared object."""
     return open_archive(path) if path.suffix == ".a" else open_shared(path)
 
 
 def open_archive(archive: Path) -> ctypes.CDLL:
     """Loads a static library through a shared object that lives no longer than the loading."""
-    with tempfile.TemporaryDirectory() as folder:
-        shared = Path(folder) / SHARED.name
-        link(archive, shared)
-        return open_shared(shared)
+    try:
+        with tempfile.TemporaryDirectory() as folder:
+            shared = Path(folder) / SHARED.name
+            link(archive, shared)
+            return open_shared(shared)
+    except OSError as error:
+        raise LibraryError(f"{archive} cannot be linked: {error}") from error
 
 
 def open_shared(path: Path) -> ctypes.CDLL:
@@ -63,46 +78,69 @@ def open_shared(path: Path) -> ctypes.CDLL:
 
 
 def built(root: Path) -> Path:
-    """The shared object of the sources under `root`, built where it is missing or older than one of them."""
-    if not (root / "crates").is_dir():
-        raise LibraryError(f"no crates/ in {root}: set {VARIABLE} to a ready libexports.a or libidentify.so")
-    shared = root / SHARED
-    if not is_current(shared, root):
-        build(root, shared)
-    return shared
+    """The library of the sources under `root`, built where it is missing or was built from others."""
+    try:
+        if is_current(root):
+            return root / SHARED
+        return build(root) if can_build(root) else left_there(root)
+    except OSError as error:
+        raise LibraryError(f"the library cannot be built in {root}: {error}; {READY_INSTEAD}") from error
 
 
-def is_current(shared: Path, root: Path) -> bool:
-    """Whether the shared object is there and no source has changed since its build began."""
-    if not shared.is_file():
+def is_current(root: Path) -> bool:
+    """Whether the shared object is there and was built from the sources as they are."""
+    if not (root / SHARED).is_file() or not (root / DIGEST).is_file():
         return False
-    made = shared.stat().st_mtime_ns
-    return all(path.stat().st_mtime_ns <= made for path in sources(root))
+    return (root / DIGEST).read_text() == digest(root)
+
+
+def digest(root: Path) -> str:
+    """A digest of the names and the contents of all that a build reads."""
+    whole = hashlib.sha256()
+    for path in sources(root):
+        data = path.read_bytes()
+        whole.update(f"{path.relative_to(root)} {len(data)}\n".encode(errors="surrogateescape") + data)
+    return whole.hexdigest()
 
 
 def sources(root: Path) -> Iterator[Path]:
-    """The files that a build reads, and their folders, whose time tells of a file that was taken away."""
-    yield root / "crates.txt"
-    for path in (root / "crates").rglob("*"):
-        if UNBUILT_FOLDER not in path.parts:
+    """The files that a build reads, in the order of their names."""
+    for path in (root / "crates.txt", *sorted((root / "crates").rglob("*"))):
+        if path.is_file() and UNBUILT_FOLDERS.isdisjoint(path.relative_to(root).parts):
             yield path
 
 
-def build(root: Path, shared: Path) -> None:
-    """Proves and compiles the crates, then links the shared object. Its time is that of the build's start."""
-    print(
-        f"identify: building the proved library ({' '.join(BUILD_COMMAND)}, then cc); the first time takes minutes",
-        file=sys.stderr,
-        flush=True,
-    )
-    started = time.time_ns()
-    command(BUILD_COMMAND, root)
+def can_build(root: Path) -> bool:
+    """Whether the sources and their prover are there."""
+    return (root / "crates").is_dir() and shutil.which(BUILD_COMMAND[0]) is not None
+
+
+def build(root: Path) -> Path:
+    """Proves and compiles the crates, then links the shared object, whole or not at all. Its digest is that of the sources
+    before the build."""
+    shared = root / SHARED
     shared.parent.mkdir(parents=True, exist_ok=True)
+    # The folder is made first: one that cannot be written is known before the long build.
     with tempfile.TemporaryDirectory(dir=shared.parent) as folder:
+        say(f"building the proved library ({' '.join(BUILD_COMMAND)}, then cc); the first time takes minutes")
+        read = digest(root)
+        command(BUILD_COMMAND, root)
         fresh = Path(folder) / shared.name
         link(root / ARCHIVE, fresh)
-        os.utime(fresh, ns=(started, started))
+        (root / DIGEST).unlink(missing_ok=True)
         fresh.replace(shared)
+    (root / DIGEST).write_text(read)
+    return shared
+
+
+def left_there(root: Path) -> Path:
+    """The library of an earlier build, where none can be built."""
+    why = f"{BUILD_COMMAND[0]} is not on the PATH" if (root / "crates").is_dir() else f"there is no crates/ in {root}"
+    for path in (SHARED, ARCHIVE):
+        if (root / path).is_file():
+            say(f"{why}: {path} is used as it is, and may have been built from other sources")
+            return root / path
+    raise LibraryError(f"{why}, and there is no library in target/; {READY_INSTEAD}")
 
 
 def link(archive: Path, shared: Path) -> None:
@@ -119,14 +157,18 @@ def command(words: Sequence[str], folder: Path) -> None:
             text=True,
         )
     except FileNotFoundError as error:
-        raise LibraryError(f"{words[0]} is not on the PATH; it is needed to build the library") from error
+        raise LibraryError(f"{words[0]} is not on the PATH; it is needed to build or link the library") from error
     others: list[str] = []
     with process:
-        for line in process.stdout:
-            if line.startswith("rt:"):
-                print(line, end="", file=sys.stderr, flush=True)
-            else:
-                others.append(line)
+        try:
+            for line in process.stdout:
+                if line.startswith("rt:"):
+                    note(line)
+                else:
+                    others.append(line)
+        except BaseException:
+            process.kill()
+            raise
     if process.returncode != 0:
-        print("".join(others), end="", file=sys.stderr)
+        note("".join(others))
         raise LibraryError(f"`{' '.join(words)}` failed with status {process.returncode}")

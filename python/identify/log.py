@@ -9,6 +9,8 @@ from dataclasses import dataclass, field
 from pathlib import Path
 
 COLUMNS = ("dt", "rate", "moment")
+OTHER_DELIMITERS = {";": "semicolons", "\t": "tabs", "|": "bars", " ": "spaces"}
+"""Delimiters that a log may have and that are not read."""
 STANDARD_INPUT = "-"
 
 
@@ -29,13 +31,20 @@ class Log:
 
 def read_log(path: str | Path) -> Log:
     """Reads a log from a file, or from standard input where the path is `-`. Raises BadLog."""
-    if str(path) == STANDARD_INPUT:
-        return parse_bytes("standard input", sys.stdin.buffer.read())
+    name = "standard input" if str(path) == STANDARD_INPUT else str(path)
     try:
-        data = Path(path).read_bytes()
+        return parse_bytes(name, read_bytes(path))
     except OSError as error:
-        raise BadLog(f"{path}: {error.strerror or error}") from error
-    return parse_bytes(str(path), data)
+        raise BadLog(f"{name}: {error.strerror or error}") from error
+
+
+def read_bytes(path: str | Path) -> bytes:
+    """The bytes of a file, or of standard input."""
+    if str(path) != STANDARD_INPUT:
+        return Path(path).read_bytes()
+    if sys.stdin is None:
+        raise OSError("closed")
+    return sys.stdin.buffer.read()
 
 
 def parse_bytes(name: str, data: bytes) -> Log:
@@ -78,8 +87,18 @@ def find_columns(where: str, header: list[str]) -> dict[str, int]:
         count = names.count(column)
         if count != 1:
             found = "no" if count == 0 else f"{count} times the"
-            raise BadLog(f"{where}: {found} column {column}; the header line must name {', '.join(COLUMNS)} once each")
+            raise BadLog(
+                f"{where}: {found} column {column}; the header line must name {', '.join(COLUMNS)} once each, and "
+                f"{header_words(header)}"
+            )
     return {column: names.index(column) for column in COLUMNS}
+
+
+def header_words(header: list[str]) -> str:
+    """What a header line has instead, split at the delimiter."""
+    found = f"split at commas it has {', '.join(repr(cell.strip()) for cell in header)}"
+    other = next((name for mark, name in OTHER_DELIMITERS.items() if len(header) == 1 and mark in header[0].strip()), None)
+    return f"{found}: it looks split at {other}, write commas" if other else found
 
 
 def read_cell(where: str, column: str, row: list[str], place: int) -> float:

@@ -8,8 +8,9 @@ from __future__ import annotations
 import math
 from collections.abc import Iterator, Sequence
 from dataclasses import dataclass
+from itertools import islice
 
-from .records import Config, Ending, Model, Report
+from .records import Config, Ending, Report
 from .wire import singles
 
 CAPACITY = 2048
@@ -19,7 +20,7 @@ LIMIT_MOMENT = singles([0.999])[0]
 
 @dataclass(frozen=True)
 class Sample:
-    """One stored sample."""
+    """One sample."""
 
     time_s: float
     """Seconds since the start, this tick's dt included."""
@@ -41,41 +42,46 @@ def taken_calls(report: Report) -> Iterator[int]:
             yield call
 
 
-def stored_window(dt: Sequence[float], rate: Sequence[float], moment: Sequence[float], report: Report) -> list[Sample]:
-    """The samples in the probe's window: a reading that is not finite takes the value before it, or 0."""
+def taken_samples(
+    dt: Sequence[float], rate: Sequence[float], moment: Sequence[float], report: Report
+) -> Iterator[Sample]:
+    """A sample of each call that the probe took: a reading that is not finite takes the value before it, or 0."""
     rates, moments = singles(rate), singles(moment)
-    samples: list[Sample] = []
     time_s = last_rate = last_moment = 0.0
     for call in taken_calls(report):
-        if len(samples) == CAPACITY:
-            break
         time_s += dt[call]
         good_rate, good_moment = math.isfinite(rates[call]), math.isfinite(moments[call])
         last_rate = rates[call] if good_rate else last_rate
         last_moment = moments[call] if good_moment else last_moment
-        samples.append(Sample(time_s, last_rate, last_moment, report.offsets[call], not (good_rate and good_moment)))
-    return samples
+        yield Sample(time_s, last_rate, last_moment, report.offsets[call], not (good_rate and good_moment))
 
 
-def one_step(model: Model, samples: Sequence[Sample]) -> list[float]:
-    """The model's prediction of each sample's rate from the samples before it; NaN where too few lie before it.
-
-    A stored moment is the one commanded a tick earlier, so the model's u[k-d] is the moment of sample k+1-d. The fits'
-    constant term (the trim) is not part of the model and not of the prediction.
-    """
-    first = max(2, model.whole_ticks + 1)
-    (r1, r2), (m0, m1, m2) = model.rate_weights, model.moment_weights
-    predicted = [math.nan] * min(first, len(samples))
-    for k in range(first, len(samples)):
-        felt = k + 1 - model.whole_ticks
-        now, before, earlier = samples[felt].moment, samples[felt - 1].moment, samples[felt - 2].moment
-        predicted.append(r1 * samples[k - 1].rate + r2 * samples[k - 2].rate + m0 * now + m1 * before + m2 * earlier)
-    return predicted
+def stored_window(dt: Sequence[float], rate: Sequence[float], moment: Sequence[float], report: Report) -> list[Sample]:
+    """The samples in the probe's window: the first that it took, up to its capacity."""
+    return list(islice(taken_samples(dt, rate, moment, report), CAPACITY))
 
 
 def at_limit(samples: Sequence[Sample]) -> int:
     """How many of the samples have a moment at the limit."""
     return sum(abs(sample.moment) >= LIMIT_MOMENT for sample in samples)
+
+
+def began(samples: Sequence[Sample], index: int) -> float:
+    """When a sample's tick began: at the time of the sample before it."""
+    return samples[index - 1].time_s if index else 0.0
+
+
+def held_stretches(samples: Sequence[Sample]) -> list[tuple[int, int]]:
+    """The first and the last index of each stretch of held samples."""
+    stretches: list[tuple[int, int]] = []
+    for index, sample in enumerate(samples):
+        if not sample.held:
+            continue
+        if stretches and stretches[-1][1] == index - 1:
+            stretches[-1] = (stretches[-1][0], index)
+        else:
+            stretches.append((index, index))
+    return stretches
 
 
 def extension_taken(config: Config, dt: Sequence[float], report: Report) -> bool:

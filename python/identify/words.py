@@ -5,39 +5,35 @@ import json
 import math
 import textwrap
 from collections import Counter
-from itertools import islice
+from dataclasses import asdict
 from typing import Any
 
-from .log import Log
+from .checks import Warned
+from .flight import Flight
+from .quality import HORIZON_S, SHIFT_TICKS, Quality, in_percent
+from .reasons import reason
 from .records import RULES, Config, Ending, Model, Report
-from .window import Sample, at_limit, extension_taken, stored_window, taken_calls
-from .wire import singles
 
 WIDTH = 100
-"""Columns to which the text's sentences are broken."""
+"""Columns to which a reason's sentences are broken."""
 LINES_NAMED = 5
 """How many lines of the log the text names for one rule."""
-TERMS = 6
-"""Unknowns of the fit on the recorded rates: with fewer rows it has no answer."""
-WILD_RATE = 1000.0
-"""No airframe turns this fast, in rad/s: a reading beyond it is a fault of the gyro or of the log."""
-SQUARABLE_RATE = 1.8e19
-"""The square of a rate beyond this, in rad/s, is beyond single precision."""
 
 ENDINGS = {Ending.RUNNING: "running", Ending.DONE: "done", Ending.UNEXCITED: "unexcited", Ending.SATURATED: "saturated"}
 
 
-def text(log: Log, config: Config, report: Report) -> str:
+def text(flight: Flight, warnings: list[Warned]) -> str:
     """The report for a person, with a newline at the end."""
-    lines = [f"{log.name}: {ending_words(log, config, report)}"]
-    why = reason(log, config, report)
+    lines = [f"{flight.log.name}: {ending_words(flight)}"]
+    why = reason(flight)
     if why:
         lines += textwrap.wrap(why, WIDTH, initial_indent="  ", subsequent_indent="  ", break_on_hyphens=False)
-    if report.model:
-        lines += model_lines(report.model)
-    lines.append(row("counts", counts_words(report)))
-    lines.append(row("calls", calls_words(log, report)))
-    lines += refusal_lines(log, report)
+    lines += [row("warning", warned.text) for warned in warnings]
+    if flight.report.model:
+        lines += model_lines(flight.report.model, flight.quality)
+    lines.append(row("counts", counts_words(flight.report)))
+    lines.append(row("calls", calls_words(flight)))
+    lines += refusal_lines(flight)
     return "\n".join(lines) + "\n"
 
 
@@ -46,30 +42,43 @@ def row(name: str, value: str) -> str:
     return f"  {name:<15} {value}"
 
 
-def ending_words(log: Log, config: Config, report: Report) -> str:
+def ending_words(flight: Flight) -> str:
     """How the probe ended, in a line."""
+    report = flight.report
     if report.ending is Ending.RUNNING:
         return "still running, no model"
     if report.model is None:
         return f"gave up: {ENDINGS[report.ending]}"
-    if not report.model.integrated:
-        return "done, by the fit on the recorded rates (a quiet window)"
-    if config.extension and extension_taken(config, log.dt, report):
-        stretch = f"extended from {config.duration_s:g} s to {config.extension.duration_s:g} s"
-        return f"done, by the integrated fit (a noisy window, {stretch})"
-    return "done, by the integrated fit (a noisy window)"
+    fit = "integrated fit (a noisy" if report.model.integrated else "fit on the recorded rates (a quiet"
+    return f"done, by the {fit} window{window_words(flight)})"
 
 
-def model_lines(model: Model) -> list[str]:
-    """Delay, lag, push, weights and tick of a model."""
+def window_words(flight: Flight) -> str:
+    """Where the window was extended, and where it was full."""
+    duration_s, full_s = flight.config.duration_s, flight.full_s
+    if full_s is None:
+        return f", extended from {duration_s:g} s to {flight.config.extension.duration_s:g} s" if flight.extended else ""
+    extended = f", extended from {duration_s:g} s" if flight.extended and full_s > duration_s else ""
+    return f"{extended}, full at {full_s:.4g} s"
+
+
+def model_lines(model: Model, quality: Quality | None) -> list[str]:
+    """Delay, lag, push, quality, weights and tick of a model."""
     d = model.whole_ticks
     return [
-        row("delay", f"{number(model.delay_ticks)} ticks, {1000 * model.delay_s:.2f} ms"),
+        row("delay", delay_words(model)),
         *units_lines(model),
+        row("fit", quality_words(quality)),
         row("rate weights", f"{weights(model.rate_weights)}  of y[k-1], y[k-2]"),
         row("moment weights", f"{weights(model.moment_weights)}  of u[k-{d}], u[k-{d + 1}], u[k-{d + 2}]"),
         row("dt", f"{model.dt_s:.6g} s"),
     ]
+
+
+def delay_words(model: Model) -> str:
+    """The delay in ticks and in ms."""
+    noun = "tick" if model.delay_ticks == 1 else "ticks"
+    return f"{model.delay_ticks:g} {noun}, {1000 * model.delay_s:.2f} ms"
 
 
 def units_lines(model: Model) -> list[str]:
@@ -80,18 +89,29 @@ def units_lines(model: Model) -> list[str]:
     no_lag = ", the fit sees no lag" if model.lag_s == 0 else ""
     return [
         row("lag", f"{1000 * model.lag_s:.2f} ms{no_lag}"),
-        row("push", f"{model.accel_radps2:.2f} rad/s² per unit moment"),
+        row("push", f"{unsigned_zero(f'{model.accel_radps2:.2f}')} rad/s² per unit moment"),
     ]
 
 
-def number(value: float) -> str:
-    """3.5 for a half, 3 for a whole number."""
-    return f"{value:g}"
+def quality_words(quality: Quality | None) -> str:
+    """What share of the rate's change a model explains."""
+    if quality is None:
+        return f"not tried, no good stretch of {HORIZON_S:g} s"
+    return (
+        f"explains {in_percent(quality.explained)} of the rate's change over {HORIZON_S:g} s, the gyro's noise "
+        f"{in_percent(quality.noise)}; {SHIFT_TICKS} ticks earlier {in_percent(quality.earlier)}, "
+        f"later {in_percent(quality.later)}"
+    )
 
 
 def weights(values: tuple[float, ...]) -> str:
     """Weights with the seven digits that a single has."""
-    return "  ".join(f"{value:.7g}" for value in values)
+    return "  ".join(unsigned_zero(f"{value:.7g}") for value in values)
+
+
+def unsigned_zero(number: str) -> str:
+    """A number in words, without the minus of one that is rounded to 0."""
+    return number.removeprefix("-") if float(number) == 0 else number
 
 
 def counts_words(report: Report) -> str:
@@ -107,9 +127,10 @@ def after_end(report: Report) -> int:
     return len(report.offsets) - report.ticks - len(report.refusals)
 
 
-def calls_words(log: Log, report: Report) -> str:
+def calls_words(flight: Flight) -> str:
     """What became of the log's lines."""
-    words = [f"{len(log.lines)} in the log", f"{len(report.refusals) or 'none'} turned back"]
+    report = flight.report
+    words = [f"{len(flight.log.lines)} in the log", f"{len(report.refusals) or 'none'} turned back"]
     if after_end(report):
         words.append(f"{after_end(report)} after the end, unused")
     if report.stored < report.ticks:
@@ -117,11 +138,12 @@ def calls_words(log: Log, report: Report) -> str:
     return ", ".join(words)
 
 
-def refusal_lines(log: Log, report: Report) -> list[str]:
+def refusal_lines(flight: Flight) -> list[str]:
     """One line for each rule that turned calls back, with the log's lines."""
+    refusals = flight.report.refusals
     lines = []
-    for rule, count in sorted(Counter(refusal.rule for refusal in report.refusals).items()):
-        places = [log.lines[refusal.call] for refusal in report.refusals if refusal.rule == rule]
+    for rule, count in sorted(Counter(refusal.rule for refusal in refusals).items()):
+        places = [flight.log.lines[refusal.call] for refusal in refusals if refusal.rule == rule]
         named = ", ".join(map(str, places[:LINES_NAMED]))
         more = f" and {count - LINES_NAMED} more" if count > LINES_NAMED else ""
         noun = "line" if count == 1 else "lines"
@@ -129,95 +151,24 @@ def refusal_lines(log: Log, report: Report) -> list[str]:
     return lines
 
 
-def reason(log: Log, config: Config, report: Report) -> str | None:
-    """Why there is no model, and what to do about it; None where there is one."""
-    if report.ending is Ending.DONE:
-        return None
-    if report.ending is Ending.RUNNING:
-        return running_reason(log, config, report)
-    samples = stored_window(log.dt, log.rate, log.moment, report)
-    if report.ending is Ending.SATURATED:
-        return saturated_reason(samples)
-    return unexcited_reason(log, samples, report)
-
-
-def running_reason(log: Log, config: Config, report: Report) -> str:
-    """The log is shorter than the probe."""
-    at = f"the log ends after {report.elapsed_s or 0.0:.4g} s"
-    if config.extension and extension_taken(config, log.dt, report):
-        return (
-            f"{at}: the window was noisy at {config.duration_s:g} s and goes on to {config.extension.duration_s:g} s. "
-            "Log the extension to its end, or give --no-extension."
-        )
-    return (
-        f"{at}, before the duration of {config.duration_s:g} s. Log the excitation to its end, or give the --duration that "
-        "was flown."
-    )
-
-
-def saturated_reason(samples: list[Sample]) -> str:
-    """Too many moments at the limit in a noisy window."""
-    count = at_limit(samples)
-    share = count / max(len(samples), 1)
-    return (
-        f"{count} of {len(samples)} moments ({share:.0%}) are at the limit, more than a fifth, and the window is noisy: a "
-        "clipped moment is not the one that the airframe felt. Lower the rate loop's gains or the amplitude."
-    )
-
-
-def unexcited_reason(log: Log, samples: list[Sample], report: Report) -> str:
-    """No fit had an answer."""
-    if report.rows < TERMS:
-        return (
-            f"only {report.rows} rows to fit, fewer than the {TERMS} unknowns ({report.stored} samples, {report.held} held; "
-            "a row needs 12 good samples on end). Check the log's length, its dt and its nan readings."
-        )
-    wild = wild_readings(log, report)
-    if wild and (report.gain_fits or max(abs(rate) for _, rate in wild) > SQUARABLE_RATE):
-        return wild_reason(wild, report)
-    least = min(sample.moment for sample in samples)
-    most = max(sample.moment for sample in samples)
-    return (
-        f"the excitation did not move the moment enough to tell the terms apart (it lies between {least:.3g} and "
-        f"{most:.3g}). Check that the moment is that of the probed axis, and raise the amplitude."
-    )
-
-
-def wild_readings(log: Log, report: Report) -> list[tuple[int, float]]:
-    """Line and rate of each stored reading that no airframe gives."""
-    rates = singles(log.rate)
-    stored = islice(taken_calls(report), report.stored)
-    return [(log.lines[call], rates[call]) for call in stored if WILD_RATE < abs(rates[call]) < math.inf]
-
-
-def wild_reason(wild: list[tuple[int, float]], report: Report) -> str:
-    """Readings beyond what single precision can fit."""
-    what = "the window is noisy, and no fit of it has a finite gain and a finite error"
-    if not report.gain_fits:
-        what = "no fit of the window has finite numbers"
-    (first, rate), (last, _) = wild[0], wild[-1]
-    places = f"line {first}" if first == last else f"lines {first} to {last}"
-    noun = "rate is" if len(wild) == 1 else "rates are"
-    return (
-        f"{what}: {len(wild)} {noun} beyond {WILD_RATE:,.0f} rad/s ({places}, the first {rate:.3g}). Write nan for such "
-        "readings, and they count as held."
-    )
-
-
-def as_json(log: Log, config: Config, report: Report) -> str:
+def as_json(flight: Flight, warnings: list[Warned]) -> str:
     """The report as one JSON object, with a newline at the end. A number that is not finite is null."""
-    return json.dumps(finite(as_dict(log, config, report)), indent=2, allow_nan=False) + "\n"
+    return json.dumps(finite(as_dict(flight, warnings)), indent=2, allow_nan=False) + "\n"
 
 
-def as_dict(log: Log, config: Config, report: Report) -> dict[str, Any]:
+def as_dict(flight: Flight, warnings: list[Warned]) -> dict[str, Any]:
     """The report as plain values."""
+    log, report = flight.log, flight.report
     return {
         "file": log.name,
         "ending": ENDINGS[report.ending],
-        "reason": reason(log, config, report),
+        "reason": reason(flight),
+        "warnings": [asdict(warned) for warned in warnings],
         "elapsed_s": report.elapsed_s,
-        "extended": config.extension is not None and extension_taken(config, log.dt, report),
+        "extended": flight.extended,
+        "window_full_s": flight.full_s,
         "model": model_dict(report.model) if report.model else None,
+        "quality": quality_dict(flight.quality) if flight.quality else None,
         "counts": {
             "ticks": report.ticks,
             "stored": report.stored,
@@ -231,7 +182,7 @@ def as_dict(log: Log, config: Config, report: Report) -> dict[str, Any]:
             {"line": log.lines[refusal.call], "call": refusal.call, "rule": refusal.rule, "why": RULES[refusal.rule]}
             for refusal in report.refusals
         ],
-        "config": config_dict(config),
+        "config": config_dict(flight.config),
         "report_hex": report.raw.hex(),
     }
 
@@ -249,6 +200,11 @@ def model_dict(model: Model) -> dict[str, Any]:
         "moment_weights": list(model.moment_weights),
         "dt_s": model.dt_s,
     }
+
+
+def quality_dict(quality: Quality) -> dict[str, Any]:
+    """A quality as plain values."""
+    return {"horizon_s": HORIZON_S, **asdict(quality)}
 
 
 def config_dict(config: Config) -> dict[str, Any]:

@@ -2,6 +2,7 @@
 import contextlib
 import io
 import os
+import shutil
 import subprocess
 import sys
 import tempfile
@@ -51,10 +52,13 @@ class FirstUse(unittest.TestCase):
             self.shared = library.built(self.root)
         return errors.getvalue()
 
-    def later(self, path):
-        """Gives a file a time after the build."""
-        time_ns = time.time_ns() + 1_000_000_000
-        os.utime(path, ns=(time_ns, time_ns))
+    def without_rt(self):
+        """A path on which there is no rt but all else."""
+        programs = self.root.parent / "others"
+        programs.mkdir()
+        for name in ("cc", "ld", "as"):
+            (programs / name).symlink_to(shutil.which(name))
+        return {"PATH": str(programs)}
 
     def test_builds_once_and_says_so(self):
         said = self.built()
@@ -67,10 +71,68 @@ class FirstUse(unittest.TestCase):
 
     def test_builds_again_after_a_change(self):
         self.built()
-        self.later(self.edit)
+        self.edit.write_text("another edit")
+        (self.source.parent / "data").mkdir()
+        (self.source.parent / "data" / "vectors.bin").write_text("1")
         self.assertEqual(self.built(), "")
-        self.later(self.source)
+        for change in (
+            lambda: self.source.write_text("fn main"),
+            lambda: self.source.rename(self.source.with_name("other.rt")),
+            lambda: self.source.with_name("other.rt").unlink(),
+            lambda: (self.root / "crates.txt").write_text("report:"),
+        ):
+            change()
+            self.assertIn("building", self.built())
+            self.assertEqual(self.built(), "")
+
+    def test_dates_of_files_do_not_matter(self):
+        self.built()
+        for seconds in (0, time.time() + 1e7):
+            for path in (self.source, self.root / "crates.txt", self.shared):
+                os.utime(path, (seconds, seconds))
+                self.assertEqual(self.built(), "")
+        self.source.write_text("fn main")
+        os.utime(self.source, (0, 0))
         self.assertIn("building", self.built())
+
+    def test_a_build_that_was_cut_short_is_made_again(self):
+        self.built()
+        (self.root / "crates.txt").write_text("report:")
+        with mock.patch.object(library, "link", side_effect=KeyboardInterrupt), self.assertRaises(KeyboardInterrupt):
+            self.built()
+        self.assertIn("building", self.built())
+
+    def test_a_library_at_hand_is_used_without_rt(self):
+        self.built()
+        without = self.without_rt()
+        self.assertEqual(self.built(**without), "")
+        self.source.write_text("fn main")
+        said = self.built(**without)
+        self.assertIn("identify: rt is not on the PATH: target/identify/libidentify.so is used as it is", said)
+        self.assertEqual(said.count("\n"), 1)
+        shutil.rmtree(self.shared.parent)
+        self.assertIn("target/staticlib/libexports.a is used as it is", self.built(**without))
+        with mock.patch.dict(os.environ, without):
+            self.assertTrue(library.open_library(self.shared).identify_byte_run)
+
+    def test_a_library_at_hand_is_used_without_sources(self):
+        self.built()
+        shutil.rmtree(self.root / "crates")
+        self.assertIn(f"there is no crates/ in {self.root}: target/identify/libidentify.so is used as it is", self.built())
+
+    def test_a_folder_that_cannot_be_written(self):
+        (self.root / "target").mkdir()
+        (self.root / "target/identify").write_text("in the way")
+        with self.assertRaisesRegex(identify.LibraryError, "cannot be built in .*File exists.*IDENTIFY_LIBRARY"):
+            self.built()
+        self.assertFalse((self.root / "target/staticlib").exists(), "known before rt is run")
+
+    def test_an_archive_that_cannot_be_linked(self):
+        self.built()
+        archive = self.root / library.ARCHIVE
+        with mock.patch.object(tempfile, "tempdir", "/nonexistent"):
+            with self.assertRaisesRegex(identify.LibraryError, "libexports.a cannot be linked"):
+                library.open_library(archive)
 
     def test_failed_build(self):
         with self.assertRaisesRegex(identify.LibraryError, "`rt staticlib exports` failed with status 3"):
@@ -82,7 +144,7 @@ class FirstUse(unittest.TestCase):
             library.open_shared(self.shared)
 
     def test_without_rt(self):
-        with self.assertRaisesRegex(identify.LibraryError, "rt is not on the PATH"):
+        with self.assertRaisesRegex(identify.LibraryError, "rt is not on the PATH, and there is no library .*IDENTIFY_LIBRARY"):
             self.built(PATH="/nonexistent")
 
     def test_without_sources(self):

@@ -1,23 +1,21 @@
 """The command ./identify: what it prints, its exit status, its messages."""
 import contextlib
-import importlib.util
-import io
 import json
-import os
 import re
 import tempfile
 import unittest
+from dataclasses import replace
 from pathlib import Path
-from unittest import mock
 
+from flights import ALTERED, NOISY, flown
 from support import DEMO, ROOT, command, gainless_flight, identify, log_text, made_flight, wild_log
 
-from identify import cli
+from identify import checks
+from identify.words import unsigned_zero
 
 HEADER = "dt,rate,moment\n"
 UNSETTLED = log_text(*made_flight(3, ticks=300, pole=1.01))
 M1_OPTIONS = ("--amplitude", "1", "--duration", "1", "--washout", "0.5", "--no-extension")
-HAS_MATPLOTLIB = importlib.util.find_spec("matplotlib") is not None
 
 
 class Good(unittest.TestCase):
@@ -37,11 +35,35 @@ class Good(unittest.TestCase):
         result = command("-", given=log_text(*made_flight(3)))
         self.assertRegex(result.stdout, r"\n  lag             24\.6\d ms\n  push            7[45]\.\d\d rad/s² per unit moment\n")
 
-    def test_terminal_without_the_raised_two(self):
-        with mock.patch.dict(os.environ, {"PYTHONIOENCODING": "ascii"}):
-            result = command(str(DEMO / "clean.csv"))
-        self.assertEqual((result.returncode, result.stderr), (0, ""))
-        self.assertIn("push            40.00 rad/s? per unit moment\n", result.stdout)
+    def test_one_tick_in_words(self):
+        self.assertIn("delay           1 tick, 4.00 ms\n", command("-", given=log_text(*made_flight(1))).stdout)
+
+    def test_zeros_have_no_minus(self):
+        result = command("-", given=log_text(*ALTERED["moments of noise"]()))
+        self.assertIn("rate weights    1  0  of", result.stdout)
+        self.assertIn("moment weights  -0.04459888  0  0  of", result.stdout)
+        for number, shown in (("-0", "0"), ("-0.00", "0.00"), ("-0.01", "-0.01"), ("0", "0"), ("nan", "nan"), ("-inf", "-inf")):
+            self.assertEqual(unsigned_zero(number), shown)
+
+    def test_quality_in_words(self):
+        self.assertIn("fit             explains 100.0% of the rate's change over 0.2 s, the gyro's noise 0.0%; 2 ticks "
+                      "earlier 99.2%, later 99.2%\n", command(str(DEMO / "clean.csv")).stdout)
+        self.assertIn("fit             not tried, no good stretch of 0.2 s\n",
+                      command("-", given=log_text(*ALTERED["one dt of 3000 s"]())).stdout)
+
+    def test_a_full_window_in_words(self):
+        for ticks, words in ((400, "full at 5.12 s"), (300, "extended from 6 s, full at 6.827 s")):
+            result = command("-", given=log_text(*flown(replace(NOISY, tick_s=1 / ticks, dropouts=()))))
+            self.assertIn(f"done, by the integrated fit (a noisy window, {words})\n", result.stdout)
+        result = command("-", "--duration", "11", "--no-extension", given=log_text(*made_flight(3, ticks=3000)))
+        self.assertIn("done, by the fit on the recorded rates (a quiet window, full at 8.192 s)\n", result.stdout)
+
+    def test_moments_in_percent_are_not_blamed_on_the_gains(self):
+        result = command("-", given=log_text(*ALTERED["moment in percent"]()))
+        words = " ".join(result.stdout.split())
+        self.assertIn("1006 of 1500 moments (67%) are at the limit, more than a fifth, and the window is noisy. See the "
+                      "warning about their unit. warning", words)
+        self.assertNotIn("gains", words)
 
     def test_no_lag_in_words(self):
         result = command("-", given=log_text(*made_flight(3, pole=-0.2)))
@@ -82,10 +104,21 @@ class Good(unittest.TestCase):
         self.assertIn("still running", result.stdout)
         self.assertIn("the log ends after 1 s, before the duration of 6 s", result.stdout)
 
+    def test_log_that_ends_a_hair_early(self):
+        result = command("-", "--duration", "12", "--no-extension", given=log_text(*made_flight(3, ticks=3000)))
+        self.assertIn("the log ends after 11.9998598 s, before the duration of 12 s", result.stdout)
+
     def test_log_that_ends_in_the_extension(self):
         lines = (DEMO / "noisy.csv").read_text().splitlines(keepends=True)
         result = command("-", given="".join(lines[:1700]))
         self.assertIn("the window was noisy at 6 s and goes on to 8 s", " ".join(result.stdout.split()))
+
+    def test_a_duration_longer_than_the_extension_that_nobody_typed(self):
+        found = json.loads(command(str(DEMO / "clean.csv"), "--duration", "9", "--json").stdout)
+        self.assertEqual((found["config"]["duration_s"], found["config"]["extension"]["duration_s"]), (9.0, 9.0))
+        given = log_text(*(column[:] for column in flown(replace(NOISY, seconds=9.2))))
+        result = command("-", "--duration", "9", given=given)
+        self.assertIn("done, by the integrated fit (a noisy window, full at 8.192 s)\n", result.stdout)
 
     def test_no_extension(self):
         result = command(str(DEMO / "noisy.csv"), "--no-extension")
@@ -118,8 +151,9 @@ class Wild(unittest.TestCase):
         result = command("-", given=wild_log("noisy.csv", 803, ["3e38", "-3e38"] * 3))
         self.assertEqual((result.returncode, result.stderr), (0, ""))
         words = " ".join(result.stdout.split())
-        self.assertIn("gave up: unexcited the window is noisy, and no fit of it has a finite gain and a finite error: 6 rates "
-                      "are beyond 1,000 rad/s (lines 803 to 808, the first 3e+38). Write nan for such readings", words)
+        self.assertIn("gave up: unexcited the window is noisy, and no fit of it has a finite gain and a finite error. See "
+                      "the warning about its rates. warning 6 rates are beyond 1,000 rad/s (lines 803 to 808, the first "
+                      "3e+38). Write nan for such readings", words)
         self.assertIn("held 9, warm 50, rows 1941, gain fits 2580", words)
         self.assertNotIn("weights", words)
 
@@ -130,8 +164,8 @@ class Wild(unittest.TestCase):
     def test_wild_readings_that_rows_see(self):
         result = command("-", given=wild_log("noisy.csv", 803, ["3e38", "-3e38"], around="0"))
         words = " ".join(result.stdout.split())
-        self.assertIn("gave up: unexcited no fit of the window has finite numbers: 2 rates are beyond 1,000 rad/s (lines 803 to "
-                      "804, the first 3e+38)", words)
+        self.assertIn("gave up: unexcited no fit of the window has finite numbers. See the warning about its rates. warning "
+                      "2 rates are beyond 1,000 rad/s (lines 803 to 804, the first 3e+38)", words)
         self.assertIn("gain fits 0", words)
 
     def test_a_wild_reading_beside_a_lost_moment(self):
@@ -162,13 +196,17 @@ class Readme(unittest.TestCase):
         printed = command(str(DEMO / "noisy.csv")).stdout.replace(f"{DEMO}/", "demo/")
         self.assertIn(f"```\n{printed}```\n", self.text)
 
+    def test_the_codes(self):
+        table = re.search(r"\| code \|.*?\n\n", self.text, re.DOTALL).group(0)
+        self.assertEqual(re.findall(r"`([a-z-]+)`", table), [*checks.LOG_CHECKS, *checks.MODEL_CHECKS])
+
     def test_the_notebook(self):
         lines = re.search(r"```python\n(.*?)```", self.text, re.DOTALL).group(1).splitlines()
         names = {}
         with contextlib.chdir(ROOT):
             exec("\n".join(lines), names)
         shown = [line.split("#") for line in lines if "#" in line]
-        self.assertEqual(len(shown), 3)
+        self.assertEqual(len(shown), 5)
         for expression, value in shown:
             self.assertEqual(repr(eval(expression, names)), value.strip())
 
@@ -234,8 +272,23 @@ class Bad(unittest.TestCase):
     def test_empty(self):
         self.complains("-", expected=("standard input:1", "no header line"))
 
+    def test_header_only(self):
+        self.complains("-", given=HEADER + "\n", expected=("standard input: a header line and no line below it",))
+
+    def test_no_call_accepted(self):
+        self.complains("-", given=HEADER + "0,0,0\nnan,0,0\n", expected=(
+            "standard input:2: none of 2 calls was accepted; the first breaks rule 6, dt not positive and finite. dt is the "
+            "time since the last tick, in s.",))
+        self.complains("-", given=HEADER + "20000,0,0\n", expected=("rule 7", "it looks like µs. Divide it by 1,000,000."))
+
     def test_column_missing(self):
-        self.complains("-", given="dt,rate\n1,2\n", expected=("standard input:1", "no column moment"))
+        self.complains("-", given="dt,rate\n1,2\n", expected=(
+            "standard input:1: no column moment", "split at commas it has 'dt', 'rate'\n"))
+
+    def test_another_delimiter(self):
+        for mark, name in ((";", "semicolons"), ("\t", "tabs"), (" ", "spaces"), ("|", "bars")):
+            header = mark.join(("dt", "rate", "moment"))
+            self.complains("-", given=f"{header}\n", expected=(f"it has {header!r}: it looks split at {name}, write commas",))
 
     def test_column_twice(self):
         self.complains("-", given="dt,rate,moment,rate\n", expected=("standard input:1", "2 times the column rate"))
@@ -263,42 +316,22 @@ class Bad(unittest.TestCase):
             2: ("--duration", "-1"),
             3: ("--washout", "nan"),
             4: ("--extension-amplitude", "inf"),
-            5: ("--duration", "9"),
+            5: ("--extension-duration", "5"),
         }.items():
             with self.subTest(rule=rule):
                 self.complains(flight, *options, expected=(f"refused by rule {rule}: {identify.RULES[rule]}", options[0]))
+
+    def test_a_default_that_was_not_typed(self):
+        flight = str(DEMO / "clean.csv")
+        self.complains(flight, "--extension-duration", "5", expected=("--extension-duration 5, --duration 6 (the default): ",))
+        both = ("--duration", "9", "--extension-duration", "8")
+        self.complains(flight, *both, expected=("--extension-duration 8, --duration 9: refused by rule 5",))
 
     def test_option_without_number(self):
         self.complains("x.csv", "--duration", "long", expected=("--duration", "long"))
 
     def test_extension_options_that_exclude_each_other(self):
         self.complains("x.csv", "--no-extension", "--extension-duration", "9", expected=("--no-extension excludes",))
-
-    def test_picture_of_another_kind(self):
-        self.complains(str(DEMO / "clean.csv"), "--plot", "x.pdf", expected=("x.pdf", ".png or .svg"))
-
-    def test_without_matplotlib(self):
-        errors = io.StringIO()
-        with mock.patch("importlib.util.find_spec", return_value=None), contextlib.redirect_stderr(errors):
-            status = cli.main([str(DEMO / "clean.csv"), "--plot", "x.png"])
-        self.assertEqual(status, 2)
-        self.assertIn("python3-matplotlib", errors.getvalue())
-        self.assertEqual(errors.getvalue().count("\n"), 1)
-
-
-@unittest.skipUnless(HAS_MATPLOTLIB, "matplotlib is not installed (Debian package python3-matplotlib)")
-class Pictures(unittest.TestCase):
-    """Pictures, where matplotlib is installed."""
-
-    def test_each_kind_and_ending(self):
-        starts = {".png": b"\x89PNG", ".svg": b"<?xml"}
-        with tempfile.TemporaryDirectory() as folder:
-            for name in ("clean", "noisy", "saturated"):
-                for suffix, start in starts.items():
-                    path = Path(folder) / (name + suffix)
-                    result = command(str(DEMO / f"{name}.csv"), "--plot", str(path))
-                    self.assertEqual((result.returncode, result.stderr), (0, ""))
-                    self.assertTrue(path.read_bytes().startswith(start))
 
 
 if __name__ == "__main__":

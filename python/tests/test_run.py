@@ -250,25 +250,5 @@ class NoFit(unittest.TestCase):
         self.assertEqual((report.ending, report.held, report.gain_fits), (Ending.UNEXCITED, 2, 2580))
 
 
-class Prediction(unittest.TestCase):
-    """The model one step ahead."""
-
-    def test_clean_flight_is_predicted(self):
-        dt, rate, moment = made_flight(4)
-        report = identify.run(Config(), dt, rate, moment)
-        samples = identify.stored_window(dt, rate, moment, report)
-        predicted = identify.one_step(report.model, samples)
-        self.assertEqual(len(predicted), len(samples))
-        worst = max(abs(guess - sample.rate) for guess, sample in zip(predicted, samples) if not math.isnan(guess))
-        self.assertLess(worst, 0.002)
-
-    def test_short_window(self):
-        model = identify.Model(7, (1.0, 0.0), (0.5, 0.5, 0.0), 0.004, True)
-        samples = [identify.Sample(0.004 * k, float(k), 1.0, 0.0, False) for k in range(6)]
-        self.assertEqual([math.isnan(value) for value in identify.one_step(model, samples)], [True] * 4 + [False] * 2)
-        self.assertEqual(identify.one_step(model, samples)[4:], [4.0, 5.0])
-        self.assertEqual(len(identify.one_step(model, samples[:1])), 1)
-
-
 if __name__ == "__main__":
     unittest.main()

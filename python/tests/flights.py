@@ -1,0 +1,154 @@
+"""Flights for the tests of quality and warnings: altered ones that no fitter should use, and flights of many airframes.
+
+    python3 python/tests/flights.py 600
+
+flies that many airframes, in calm air and in gusts, and counts the models that are right and wrong, and those of them that
+the quality doubts.
+"""
+from __future__ import annotations
+
+import math
+import random
+import sys
+from collections import Counter
+from collections.abc import Iterator
+from dataclasses import dataclass, replace
+
+from support import DEMO, identify
+
+sys.path.insert(0, str(DEMO))
+
+import make_flights
+
+NOISY = next(flight for flight in make_flights.FLIGHTS if flight.name == "noisy")
+DOUBTS = {"no-lag", "unchecked", "explains-little", "delay-off"}
+"""The warnings that stand on how the model holds."""
+
+Columns = tuple[list[float], list[float], list[float]]
+"""dt, rate and moment."""
+
+
+def noisy_columns() -> Columns:
+    """The noisy flight of the demo, whose answer is 3.5 ticks, 14 ms."""
+    log = identify.read_log(DEMO / "noisy.csv")
+    return log.dt, log.rate, log.moment
+
+
+def flown(flight: make_flights.Flight) -> Columns:
+    """A flight flown with the default configuration."""
+    dt, loop, _ = make_flights.fly(flight, identify.Config())
+    return dt, loop.rates, loop.moments
+
+
+def lost_samples() -> Columns:
+    """900 samples on end without a number."""
+    dt, rate, moment = noisy_columns()
+    rate[300:1200] = moment[300:1200] = [math.nan] * 900
+    return dt, rate, moment
+
+
+def moments_of_noise() -> Columns:
+    """Moments that have nothing to do with the rates."""
+    dt, rate, moment = noisy_columns()
+    draw = random.Random(2)
+    return dt, rate, [draw.gauss(0, 0.1) for _ in moment]
+
+
+def one_dt_of(seconds: float) -> Columns:
+    """A tick that is much too long."""
+    dt, rate, moment = noisy_columns()
+    dt[300] = seconds
+    return dt, rate, moment
+
+
+def scaled(dt: float = 1.0, rate: float = 1.0, moment: float = 1.0) -> Columns:
+    """The noisy flight in other units."""
+    factors = (dt, rate, moment)
+    return tuple([factor * value for value in column] for factor, column in zip(factors, noisy_columns()))
+
+
+ALTERED = {
+    "lost samples": lost_samples,
+    "moments of noise": moments_of_noise,
+    "one dt of 2 s": lambda: one_dt_of(2.0),
+    "one dt of 3000 s": lambda: one_dt_of(3000.0),
+    "a delay of 60 ms": lambda: flown(replace(NOISY, delay_s=0.06)),
+    "400 Hz": lambda: flown(replace(NOISY, tick_s=0.0025, dropouts=())),
+    "moment in percent": lambda: scaled(moment=100.0),
+    "rate in deg/s": lambda: scaled(rate=math.degrees(1)),
+}
+"""Flights whose answer no fitter should use as it stands."""
+
+
+def identified(columns: Columns, config: identify.Config = identify.Config()) -> identify.Flight:
+    """A flight with its report. Its first call stands on line 2."""
+    dt, rate, moment = columns
+    log = identify.Log("flight.csv", dt, rate, moment, list(range(2, len(dt) + 2)))
+    return identify.Flight(log, config, identify.run(config, dt, rate, moment))
+
+
+def codes(flight: identify.Flight) -> list[str]:
+    """The codes of a flight's warnings."""
+    return [warned.code for warned in identify.find_warnings(flight)]
+
+
+@dataclass(frozen=True)
+class Trial:
+    """A flight of a known airframe, with what came of it."""
+
+    airframe: make_flights.Flight
+    flight: identify.Flight
+
+    @property
+    def is_right(self) -> bool:
+        """Whether the delay is within one and a half ticks of the airframe's, and the push within a tenth.
+
+        A moment is read at the next tick, and held for one: it acts half a tick later in the mean, which the one gain of the
+        integrated fit shows.
+        """
+        model = self.flight.report.model
+        delay_ticks = self.airframe.delay_s / self.airframe.tick_s + (1.5 if model.integrated else 1.0)
+        push = (model.accel_radps2 or 0.0) / self.airframe.gain
+        return abs(model.delay_ticks - delay_ticks) <= 1.5 and abs(push - 1) <= 0.1
+
+    @property
+    def is_doubted(self) -> bool:
+        """Whether the quality speaks against the model."""
+        return not DOUBTS.isdisjoint(codes(self.flight))
+
+
+def trials(count: int, gusts: float) -> Iterator[Trial]:
+    """Flights of airframes drawn at random, in gusts of this size; those that end without a model are passed over."""
+    draw = random.Random(1)
+    for number in range(count):
+        tick_s, gain = draw.choice((0.002, 0.0025, 0.004, 0.005, 0.01)), draw.choice((15.0, 40.0, 100.0))
+        airframe = make_flights.Flight(
+            "drawn",
+            seed=number,
+            noise=draw.choice((0.0, 0.0005, 0.003, 0.01, 0.02, 0.03, 0.05, 0.08)),
+            p=draw.uniform(3, 20) / gain,
+            gain=gain,
+            lag_s=draw.choice((0.01, 0.02, 0.03, 0.05, 0.1)),
+            delay_s=draw.uniform(0, 9) * tick_s,
+            trim=draw.choice((0.0, 0.02)),
+            gusts=gusts,
+            tick_s=tick_s,
+        )
+        flight = identified(flown(airframe))
+        if flight.report.model:
+            yield Trial(airframe, flight)
+
+
+def count_trials(count: int, gusts: float = 0.0) -> Counter[tuple[bool, bool]]:
+    """How many models are right, and how many doubted."""
+    return Counter((trial.is_right, trial.is_doubted) for trial in trials(count, gusts))
+
+
+if __name__ == "__main__":
+    for size in (0.0, 0.2, 0.5, 1.0):
+        found = count_trials(int(sys.argv[1]), size)
+        words = ", ".join(
+            f"{found[right, False] + found[right, True]} {name} of which {found[right, True]} doubted"
+            for right, name in ((True, "right"), (False, "wrong"))
+        )
+        print(f"gusts of {size:g} rad/s2: {words}")
