@@ -204,7 +204,7 @@ def model_dict(model: Model) -> dict[str, Any]:
 
 def quality_dict(quality: Quality) -> dict[str, Any]:
     """A quality as plain values."""
-    return {"horizon_s": HORIZON_S, **asdict(quality)}
+    return {"good": quality.is_good, "horizon_s": HORIZON_S, **asdict(quality), "unexplained": quality.unexplained}
 
 
 def config_dict(config: Config) -> dict[str, Any]:

@@ -92,6 +92,33 @@ def codes(flight: identify.Flight) -> list[str]:
     return [warned.code for warned in identify.find_warnings(flight)]
 
 
+ODD = (
+    math.nan, math.inf, -math.inf, 0.0, -0.0, 5e-324, 1e-45, -1e-40, 0.999, 1.0, -1.0, 4096.0, 1e10, 1e19, 3e38, -3e38, 1e39, 1e308,
+)
+"""Readings that a broken log may have."""
+
+
+def odd_columns(draw: random.Random) -> tuple[Columns, identify.Config]:
+    """A log of any length with odd readings, and a configuration that fits its length or does not."""
+    ticks = draw.choice((1, 2, 11, 12, 13, 30, 70, 120, 300, 600, 2048, 2049, 2300))
+    tick_s = draw.choice((1e-4, 0.001, 0.004, 0.01, 0.05, 0.25, 60.0))
+    duration_s = min(max(draw.choice((0.2, 0.9, 1.0, 1.5)) * ticks * tick_s, 1e-6), 3600.0)
+    extension = draw.choice((None, identify.Extension(1.0, min(draw.choice((1.0, 1.5)) * duration_s, 3600.0))))
+    columns = (
+        odd_column(draw, [tick_s] * ticks, (0, 1, 5)),
+        odd_column(draw, [draw.gauss(0, draw.choice((0.01, 0.3, 1e5))) for _ in range(ticks)], (0, 5, ticks)),
+        odd_column(draw, [draw.gauss(0, draw.choice((0.1, 50.0))) for _ in range(ticks)], (0, 5, ticks)),
+    )
+    return columns, identify.Config(draw.choice((0.5, 1e30, 1e-30)), duration_s, draw.choice((0.2, 1e-3)), extension)
+
+
+def odd_column(draw: random.Random, values: list[float], counts: tuple[int, ...]) -> list[float]:
+    """A column with so many odd readings in it."""
+    for _ in range(draw.choice(counts)):
+        values[draw.randrange(len(values))] = draw.choice(ODD)
+    return values
+
+
 @dataclass(frozen=True)
 class Trial:
     """A flight of a known airframe, with what came of it."""

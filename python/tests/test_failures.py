@@ -1,5 +1,7 @@
 """What goes wrong around the command is one line and a status, never a traceback."""
+import json
 import os
+import random
 import signal
 import subprocess
 import sys
@@ -9,9 +11,10 @@ import unittest
 from pathlib import Path
 from unittest import mock
 
-from support import DEMO, ROOT, command
+from flights import identified, odd_columns
+from support import DEMO, ROOT, command, identify
 
-from identify import library
+from identify import library, words
 
 NOISY = str(DEMO / "noisy.csv")
 COMMAND = (sys.executable, str(ROOT / "identify"))
@@ -111,6 +114,24 @@ class Locale(unittest.TestCase):
                 result = subprocess.run(words, cwd=folder, env={**os.environ, **variables}, capture_output=True)
                 self.assertEqual((result.returncode, result.stderr), (0, b""))
                 self.assertTrue(result.stdout.startswith(name + b": done"))
+
+
+class OddLogs(unittest.TestCase):
+    """Logs of any length with odd readings in any place."""
+
+    def test_words_and_json(self):
+        draw = random.Random(1)
+        endings = set()
+        for _ in range(300):
+            columns, config = odd_columns(draw)
+            flight = identified(columns, config)
+            if flight.report.ticks:
+                endings.add(flight.report.ending)
+                warnings = identify.find_warnings(flight)
+                self.assertTrue(words.text(flight, warnings).endswith("\n"))
+                self.assertEqual(json.loads(words.as_json(flight, warnings))["counts"]["ticks"], flight.report.ticks)
+                self.assertTrue(all("\n" not in warned.text for warned in warnings))
+        self.assertEqual(endings, set(identify.Ending))
 
 
 class Library(unittest.TestCase):

@@ -3,13 +3,15 @@ import contextlib
 import importlib.util
 import io
 import os
+import random
 import sys
 import tempfile
 import unittest
+import warnings
 from pathlib import Path
 from unittest import mock
 
-from flights import ALTERED, identified
+from flights import ALTERED, identified, odd_columns
 from support import DEMO, command, identify, log_text
 
 from identify import cli, picture
@@ -73,6 +75,19 @@ class Pictures(unittest.TestCase):
                 rate[place] = value
             for length in (1, 2, len(dt)):
                 self.panels((dt[:length], rate[:length], moment[:length]))
+
+    def test_odd_logs(self):
+        from matplotlib.figure import Figure
+
+        draw = random.Random(1)
+        for _ in range(15):
+            flight = identified(*odd_columns(draw))
+            if flight.report.ticks:
+                with warnings.catch_warnings():
+                    warnings.simplefilter("ignore")
+                    figure = Figure(layout="constrained")
+                    picture.draw_panels(figure, flight)
+                    figure.savefig(io.BytesIO(), format="png")
 
     def test_units_on_each_axis(self):
         panels = self.panels(self.demo("noisy"))

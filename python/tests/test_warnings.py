@@ -257,14 +257,15 @@ class Command(unittest.TestCase):
         self.assertEqual([warned["code"] for warned in found["warnings"]], ["many-held", "gap", "explains-little"])
         self.assertTrue(all(warned["text"].endswith(".") for warned in found["warnings"]))
         quality = found["quality"]
-        self.assertEqual((quality["horizon_s"], quality["stretches"]), (0.2, 980))
+        self.assertEqual((quality["good"], quality["horizon_s"], quality["stretches"]), (False, 0.2, 980))
+        self.assertAlmostEqual(quality["explained"] + quality["noise"] + quality["unexplained"], 1.0)
         self.assertAlmostEqual(quality["explained"], 0.96, delta=0.005)
         self.assertAlmostEqual(quality["noise"], 0.01, delta=0.005)
         self.assertGreater(quality["explained"], max(quality["earlier"], quality["later"]))
 
     def test_json_of_a_good_and_of_no_model(self):
         good, none = (json.loads(command(str(DEMO / f"{name}.csv"), "--json").stdout) for name in ("noisy", "saturated"))
-        self.assertEqual((good["warnings"], good["window_full_s"]), ([], None))
+        self.assertEqual((good["warnings"], good["window_full_s"], good["quality"]["good"]), ([], None, True))
         self.assertEqual((none["warnings"], none["quality"]), ([], None))
 
     def test_a_wild_window_gives_up_and_says_why(self):
