@@ -10,7 +10,7 @@ from .checks import dt_units, find_warnings
 from .flight import Flight
 from .library import LibraryError
 from .log import BadLog, read_log
-from .output import OutputError, complain, drop_output, write
+from .output import OutputError, complain, write
 from .probe import run
 from .records import RULES, Config, ConfigRefused, Extension
 
@@ -131,10 +131,8 @@ def main(arguments: Sequence[str] | None = None) -> int:
     try:
         return run_command(arguments)
     except OutputError as error:
-        drop_output()
         return complain(str(error), BAD_INPUT)
     except BrokenPipeError:
-        drop_output()
         return CLOSED_PIPE
     except KeyboardInterrupt:
         return complain("interrupted", INTERRUPTED)
@@ -149,10 +147,11 @@ def run_command(arguments: Sequence[str] | None) -> int:
         if options.plot:
             picture.check_name(options.plot)
         flight = identify_flight(options.flight, config)
-        status = print_flight(flight, options)
+        found = find_warnings(flight)
+        write((words.as_json if options.json else words.text)(flight, found))
         if options.plot:
-            picture.draw(options.plot, flight)
-        return status
+            picture.draw(options.plot, flight, found)
+        return DOUBTFUL if options.strict and (found or not flight.report.model) else GOOD
     except ConfigRefused as refused:
         return complain(refusal_words(refused, config, options), BAD_INPUT)
     except (BadLog, picture.PictureError) as error:
@@ -174,11 +173,3 @@ def identify_flight(path: str, config: Config) -> Flight:
             f"{first.rule}, {RULES[first.rule]}. {dt_units(flight) or 'dt is the time since the last tick, in s.'}"
         )
     return flight
-
-
-def print_flight(flight: Flight, options: argparse.Namespace) -> int:
-    """Prints the report, in words or in JSON, and answers the status."""
-    warnings = find_warnings(flight)
-    print_report = words.as_json if options.json else words.text
-    write(print_report(flight, warnings))
-    return DOUBTFUL if options.strict and (warnings or not flight.report.model) else GOOD

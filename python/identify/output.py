@@ -2,7 +2,6 @@
 from __future__ import annotations
 
 import codecs
-import os
 import sys
 
 ERRORS = "identify-output"
@@ -14,7 +13,10 @@ class OutputError(OSError):
 
 
 def write(text: str) -> None:
-    """Writes to standard output at once. Raises OutputError, or BrokenPipeError where its reader has gone."""
+    """Writes to standard output, and at once: what cannot be written is known here, and nothing of it is left for later.
+
+    Raises OutputError, or BrokenPipeError where its reader has gone.
+    """
     if sys.stdout is None:
         raise OutputError("standard output: closed")
     encoding = sys.stdout.encoding or "utf8"
@@ -29,12 +31,6 @@ def write(text: str) -> None:
         raise
     except OSError as error:
         raise OutputError(f"standard output: {error.strerror or error}") from error
-
-
-def drop_output() -> None:
-    """Lets what is left of standard output go nowhere, so that Python does not complain of it at its end."""
-    if sys.stdout is not None:
-        os.dup2(os.open(os.devnull, os.O_WRONLY), sys.stdout.fileno())
 
 
 def complain(message: str, status: int) -> int:

@@ -12,6 +12,7 @@ import warnings
 from collections.abc import Iterator, Sequence
 from pathlib import Path
 
+from .checks import Warned
 from .flight import Flight
 from .quality import HORIZON_S, simulated_stretches
 from .window import LIMIT_MOMENT, at_limit, began, held_stretches
@@ -36,8 +37,8 @@ def check_name(path: str) -> None:
         raise PictureError(f"--plot {path}: the name must end in {' or '.join(SUFFIXES)}")
 
 
-def draw(path: str, flight: Flight) -> None:
-    """Writes the picture of a flight."""
+def draw(path: str, flight: Flight, found: Sequence[Warned]) -> None:
+    """Writes the picture of a flight, with the codes of its warnings."""
     if importlib.util.find_spec("matplotlib") is None:
         raise PictureError(f"--plot needs matplotlib, which {sys.executable} does not have; {where_matplotlib_is()}")
     try:
@@ -51,7 +52,7 @@ def draw(path: str, flight: Flight) -> None:
         # A file name may have characters that the font lacks; they are drawn as boxes.
         warnings.simplefilter("ignore")
         figure = Figure(figsize=(10, 6.5), layout="constrained")
-        draw_panels(figure, flight)
+        draw_panels(figure, flight, found)
         figure.savefig(picture, format=kind, dpi=100, metadata={"Date": None} if kind == "svg" else None)
     try:
         Path(path).write_bytes(picture.getvalue())
@@ -78,7 +79,7 @@ def interpreters() -> Iterator[str]:
         yield SYSTEM_PYTHON
 
 
-def draw_panels(figure, flight: Flight) -> None:
+def draw_panels(figure, flight: Flight, found: Sequence[Warned]) -> None:
     """Three panels over one time axis."""
     panels = figure.subplots(3, 1, sharex=True, gridspec_kw={"height_ratios": (3, 2, 1.3)})
     draw_rate(panels[0], flight)
@@ -87,7 +88,7 @@ def draw_panels(figure, flight: Flight) -> None:
     panels[2].set_ylabel("offset, rad/s")
     panels[2].set_xlabel("time since the excitation began, s")
     # File names are drawn as they are: a $ in one begins no formula.
-    panels[0].set_title(title(flight), loc="left", parse_math=False)
+    panels[0].set_title(title(flight, found), loc="left", parse_math=False)
     for panel in panels:
         draw_marks(panel, flight)
         panel.grid(color="#dddddd", linewidth=0.6)
@@ -95,11 +96,12 @@ def draw_panels(figure, flight: Flight) -> None:
     panels[0].legend(**LEGEND)
 
 
-def title(flight: Flight) -> str:
-    """File and ending; then, of a model, its delay and its quality."""
+def title(flight: Flight, found: Sequence[Warned]) -> str:
+    """File and ending; then, of a model, its delay and its quality; then the warnings."""
     words = f"{shown(flight.log.name)}: {ENDINGS[flight.report.ending]}"
-    model = flight.report.model
-    return f"{words}, delay {delay_words(model)}\n{quality_words(flight.quality)}" if model else words
+    if flight.report.model:
+        words += f", delay {delay_words(flight.report.model)}\n{quality_words(flight.quality)}"
+    return words + (f"\nwarnings: {', '.join(warned.code for warned in found)}" if found else "")
 
 
 def shown(name: str) -> str:

@@ -22,13 +22,13 @@ LINES_NAMED = 5
 ENDINGS = {Ending.RUNNING: "running", Ending.DONE: "done", Ending.UNEXCITED: "unexcited", Ending.SATURATED: "saturated"}
 
 
-def text(flight: Flight, warnings: list[Warned]) -> str:
+def text(flight: Flight, found: list[Warned]) -> str:
     """The report for a person, with a newline at the end."""
     lines = [f"{flight.log.name}: {ending_words(flight)}"]
     why = reason(flight)
     if why:
         lines += textwrap.wrap(why, WIDTH, initial_indent="  ", subsequent_indent="  ", break_on_hyphens=False)
-    lines += [row("warning", warned.text) for warned in warnings]
+    lines += [row("warning", warned.text) for warned in found]
     if flight.report.model:
         lines += model_lines(flight.report.model, flight.quality)
     lines.append(row("counts", counts_words(flight.report)))
@@ -151,19 +151,19 @@ def refusal_lines(flight: Flight) -> list[str]:
     return lines
 
 
-def as_json(flight: Flight, warnings: list[Warned]) -> str:
+def as_json(flight: Flight, found: list[Warned]) -> str:
     """The report as one JSON object, with a newline at the end. A number that is not finite is null."""
-    return json.dumps(finite(as_dict(flight, warnings)), indent=2, allow_nan=False) + "\n"
+    return json.dumps(finite(as_dict(flight, found)), indent=2, allow_nan=False) + "\n"
 
 
-def as_dict(flight: Flight, warnings: list[Warned]) -> dict[str, Any]:
+def as_dict(flight: Flight, found: list[Warned]) -> dict[str, Any]:
     """The report as plain values."""
     log, report = flight.log, flight.report
     return {
         "file": log.name,
         "ending": ENDINGS[report.ending],
         "reason": reason(flight),
-        "warnings": [asdict(warned) for warned in warnings],
+        "warnings": [asdict(warned) for warned in found],
         "elapsed_s": report.elapsed_s,
         "extended": flight.extended,
         "window_full_s": flight.full_s,

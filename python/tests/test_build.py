@@ -102,6 +102,14 @@ class FirstUse(unittest.TestCase):
             self.built()
         self.assertIn("building", self.built())
 
+    def test_a_library_of_other_sources_is_not_taken_for_theirs(self):
+        self.built()
+        self.source.write_text("fn other")
+        with mock.patch.object(Path, "write_text", side_effect=KeyboardInterrupt), self.assertRaises(KeyboardInterrupt):
+            self.built()
+        self.source.write_text("")
+        self.assertIn("building", self.built())
+
     def test_a_library_at_hand_is_used_without_rt(self):
         self.built()
         without = self.without_rt()

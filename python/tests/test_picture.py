@@ -37,8 +37,8 @@ class Pictures(unittest.TestCase):
         """The three panels of a flight."""
         from matplotlib.figure import Figure
 
-        figure = Figure()
-        picture.draw_panels(figure, identified(columns))
+        figure, flight = Figure(), identified(columns)
+        picture.draw_panels(figure, flight, identify.find_warnings(flight))
         return figure.axes
 
     def labels(self, panel):
@@ -86,7 +86,7 @@ class Pictures(unittest.TestCase):
                 with warnings.catch_warnings():
                     warnings.simplefilter("ignore")
                     figure = Figure(layout="constrained")
-                    picture.draw_panels(figure, flight)
+                    picture.draw_panels(figure, flight, identify.find_warnings(flight))
                     figure.savefig(io.BytesIO(), format="png")
 
     def test_units_on_each_axis(self):
@@ -137,6 +137,12 @@ class Pictures(unittest.TestCase):
     def test_the_quality_stands_in_the_title(self):
         columns = self.demo("noisy")
         self.assertIn(quality_words(identified(columns).quality), self.panels(columns)[0].get_title(loc="left"))
+
+    def test_so_do_the_warnings(self):
+        for columns, codes in ((self.demo("noisy"), None), (ALTERED["a delay of 60 ms"](), "delay-last, delay-off"),
+                               (ALTERED["moment in percent"](), "moment-units")):
+            heading = self.panels(columns)[0].get_title(loc="left")
+            self.assertEqual(heading.partition("\nwarnings: ")[2] or None, codes)
 
     def test_odd_file_names(self):
         odd = os.fsdecode(b"a $b$ _{c \xff\n\xe2\x9c\x88.csv")
