@@ -110,7 +110,7 @@ def wild_words(name: str, bound: str, wild: Sequence[tuple[int, float]]) -> str 
 def uneven_dt(flight: Flight) -> str | None:
     """Ticks that are not as long as the others."""
     lengths = [flight.log.dt[call] for call in flight.calls[: flight.report.stored]]
-    usual = usual_dt(lengths)
+    usual = usual_dt(flight.log.dt)
     odd = [sample for sample, dt in enumerate(lengths) if not EVEN[0] * usual <= dt <= EVEN[1] * usual]
     if not odd:
         return None
@@ -141,8 +141,8 @@ def many_held(flight: Flight) -> str | None:
     if held <= MANY * stored:
         return None
     return (
-        f"{held} of {stored} samples ({held / stored:.0%}) are held, more than a tenth: the fits take the value before as "
-        "read. Fly again with a log that is whole."
+        f"{held} of {stored} samples ({held / stored:.0%}) are held, more than a tenth: the fit on the recorded rates passes "
+        "them over, and the integrated fit takes the value before as read. Fly again with a log that is whole."
     )
 
 
@@ -256,12 +256,11 @@ def delay_off(flight: Flight) -> str | None:
     quality = flight.quality
     if not quality or not quality.delay_off or quality.explained < LEAST_EXPLAINED:
         return None
-    side, longer = ("later", "longer") if quality.delay_off > 0 else ("earlier", "shorter")
-    moved = quality.later if quality.delay_off > 0 else quality.earlier
+    wrong, side, moved = ("early", "later", quality.later) if quality.delay_off > 0 else ("late", "earlier", quality.earlier)
     better = "more than" if moved > quality.explained else "hardly less than"
     return (
-        f"two ticks {side} the same model explains {in_percent(moved)} of the rate's change, {better} "
-        f"{in_percent(quality.explained)}: the true delay looks {longer}. Do not tune by it; fly again with more amplitude."
+        f"the model's response comes too {wrong}: two ticks {side} it explains {in_percent(moved)} of the rate's change, "
+        f"{better} {in_percent(quality.explained)}. Do not tune by its delay; fly again with more amplitude."
     )
 
 

@@ -61,7 +61,7 @@ class Quality:
 
     @property
     def delay_off(self) -> int:
-        """1 where the flight puts the delay later than the model does, -1 where it puts it earlier, else 0.
+        """1 where the model's response, delay and lag together, comes too early for the flight, -1 where too late, else 0.
 
         Both moves should cost alike. Where one costs less than half of what the other does, the parabola through the three
         shares has its peak more than a third of a tick to that side.

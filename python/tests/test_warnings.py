@@ -129,6 +129,10 @@ class Log(unittest.TestCase):
         )
         self.assertIn("1 of 1501 dt is more", text_of("uneven-dt", identified(ALTERED["one dt of 2 s"]())))
 
+    def test_a_first_dt_that_ends_the_probe(self):
+        self.assertIn("1 of 1 dt is more than a quarter off the usual 0.004 s, the worst 3000 s on line 2",
+                      text_of("uneven-dt", noisy_with(dt={0: 3000.0})))
+
     def test_dt_within_a_quarter_is_even(self):
         self.assertEqual(codes(noisy_with(dt={700: 0.005, 900: 0.003})), [])
 
@@ -215,11 +219,11 @@ class Models(unittest.TestCase):
 
     def test_delay_off(self):
         found = text_of("delay-off", identified(ALTERED["a delay of 60 ms"]()))
-        self.assertIn("two ticks later the same model explains 98.3% of the rate's change, hardly less than 98.8%: the "
-                      "true delay looks longer.", found)
+        self.assertIn("the model's response comes too early: two ticks later it explains 98.3% of the rate's change, hardly "
+                      "less than 98.8%.", found)
         found = text_of("delay-off", identified(ALTERED["one dt of 2 s"]()))
-        self.assertIn("two ticks earlier the same model explains 87.4% of the rate's change, more than 86.6%: the true "
-                      "delay looks shorter.", found)
+        self.assertIn("the model's response comes too late: two ticks earlier it explains 87.4% of the rate's change, more "
+                      "than 86.6%.", found)
 
     def test_a_quiet_window_with_some_noise(self):
         """The fit on the recorded rates takes gyro noise of 0.01 rad/s for a delay of 6 ticks; the flown delay is 9 ms."""
