@@ -11,6 +11,8 @@ from pathlib import Path
 COLUMNS = ("dt", "rate", "moment")
 OTHER_DELIMITERS = {";": "semicolons", "\t": "tabs", "|": "bars", " ": "spaces"}
 """Delimiters that a log may have and that are not read."""
+COLUMNS_NAMED = 12
+"""How many columns of a wrong header line are named."""
 STANDARD_INPUT = "-"
 
 
@@ -96,7 +98,8 @@ def find_columns(where: str, header: list[str]) -> dict[str, int]:
 
 def header_words(header: list[str]) -> str:
     """What a header line has instead, split at the delimiter."""
-    found = f"split at commas it has {', '.join(repr(cell.strip()) for cell in header)}"
+    more = f" and {len(header) - COLUMNS_NAMED} more" if len(header) > COLUMNS_NAMED else ""
+    found = f"split at commas it has {', '.join(repr(cell.strip()) for cell in header[:COLUMNS_NAMED])}{more}"
     other = next((name for mark, name in OTHER_DELIMITERS.items() if len(header) == 1 and mark in header[0].strip()), None)
     return f"{found}: it looks split at {other}, write commas" if other else found
 

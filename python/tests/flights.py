@@ -93,7 +93,8 @@ def codes(flight: identify.Flight) -> list[str]:
 
 
 ODD = (
-    math.nan, math.inf, -math.inf, 0.0, -0.0, 5e-324, 1e-45, -1e-40, 0.999, 1.0, -1.0, 4096.0, 1e10, 1e19, 3e38, -3e38, 1e39, 1e308,
+    math.nan, math.inf, -math.inf, 0.0, -0.0, 5e-324, 1e-45, -1e-40, 0.999, 1.0, -1.0, 4096.0, 1e10, 1e19, 3e38, -3e38, 1e39,
+    1e308,
 )
 """Readings that a broken log may have."""
 

@@ -285,6 +285,10 @@ class Bad(unittest.TestCase):
         self.complains("-", given="dt,rate\n1,2\n", expected=(
             "standard input:1: no column moment", "split at commas it has 'dt', 'rate'\n"))
 
+    def test_a_header_of_many_columns(self):
+        header = ",".join(f"c{number}" for number in range(300))
+        self.complains("-", given=f"{header}\n", expected=("no column dt", "'c10', 'c11' and 288 more\n"))
+
     def test_another_delimiter(self):
         for mark, name in ((";", "semicolons"), ("\t", "tabs"), (" ", "spaces"), ("|", "bars")):
             header = mark.join(("dt", "rate", "moment"))
