@@ -163,10 +163,9 @@ def window_full(flight: Flight) -> str | None:
     """A window that was full before the probe ended."""
     if flight.full_s is None:
         return None
-    duration_s = flight.config.duration_s
     before = f"the end at {flight.end_s:.4g} s"
-    if flight.extended and flight.full_s < duration_s:
-        before = f"the extension began at {duration_s:g} s"
+    if flight.extended and not flight.has_extension:
+        before = f"the extension began at {flight.config.duration_s:g} s"
     return (
         f"the window was full at {flight.full_s:.4g} s, before {before}: what came later is in no fit. Fly at "
         f"{max(1, int(CAPACITY / flight.end_s))} ticks a second or fewer."

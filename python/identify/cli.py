@@ -2,6 +2,7 @@
 from __future__ import annotations
 
 import argparse
+import signal
 from collections.abc import Sequence
 from typing import NoReturn
 
@@ -15,8 +16,8 @@ from .probe import run
 from .records import RULES, Config, ConfigRefused, Extension
 
 GOOD, DOUBTFUL, BAD_INPUT, NO_LIBRARY = 0, 1, 2, 3
-INTERRUPTED, CLOSED_PIPE = 130, 141
-"""As a shell tells of a program that SIGINT or SIGPIPE ended."""
+INTERRUPTED, CLOSED_PIPE = 128 + signal.SIGINT, 128 + signal.SIGPIPE
+"""As a shell tells of a program that a signal ended."""
 
 DESCRIPTION = "Fits how strongly, and how many ticks later, a drone's axis follows its moment, from the log of one probe."
 EPILOG = """\

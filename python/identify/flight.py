@@ -49,6 +49,11 @@ class Flight:
         return self.samples[-1].time_s if self.report.stored < self.report.ticks else None
 
     @property
+    def has_extension(self) -> bool:
+        """Whether some of the extension is in the window: it was taken before the window was full."""
+        return self.extended and (self.full_s is None or self.full_s > self.config.duration_s)
+
+    @property
     def end_s(self) -> float:
         """When the last call was that the probe took, in s since the start."""
         return sum(self.log.dt[call] for call in self.calls)

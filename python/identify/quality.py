@@ -107,17 +107,21 @@ class Simulation:
         self.damping = model.rate_weights[0] - 1 - self.carried
         """What the rate itself adds to its change."""
         self.pushes = pushes(model, [reading.moment for reading in readings], shift)
-        steps = zip((reading.rate for reading in readings), self.pushes[1:])
+        steps = zip(readings, self.pushes[1:])
         self.changes = list(accumulate(
-            steps, lambda change, step: self.damping * step[0] + self.carried * change + step[1], initial=0.0
+            steps, lambda change, step: self.next_change(step[0].rate, change, step[1]), initial=0.0
         ))
+
+    def next_change(self, rate: float, change: float, push: float) -> float:
+        """The model's equation: the change of the rate at a tick, from the rate and its change at the tick before."""
+        return self.damping * rate + self.carried * change + push
 
     def rates(self, start: int, ticks: int) -> list[float]:
         """The rates of a stretch: the reading at its start, then the model's at each tick."""
         rate, change = self.readings[start].rate, self.changes[start]
         path = [rate]
         for push in self.pushes[start + 1 : start + 1 + ticks]:
-            change = self.damping * rate + self.carried * change + push
+            change = self.next_change(rate, change, push)
             rate += change
             path.append(rate)
         return path

@@ -55,11 +55,10 @@ def ending_words(flight: Flight) -> str:
 
 def window_words(flight: Flight) -> str:
     """Where the window was extended, and where it was full."""
-    duration_s, full_s = flight.config.duration_s, flight.full_s
-    if full_s is None:
-        return f", extended from {duration_s:g} s to {flight.config.extension.duration_s:g} s" if flight.extended else ""
-    extended = f", extended from {duration_s:g} s" if flight.extended and full_s > duration_s else ""
-    return f"{extended}, full at {full_s:.4g} s"
+    extended = f", extended from {flight.config.duration_s:g} s" if flight.has_extension else ""
+    if flight.full_s is not None:
+        return f"{extended}, full at {flight.full_s:.4g} s"
+    return f"{extended} to {flight.config.extension.duration_s:g} s" if extended else ""
 
 
 def model_lines(model: Model, quality: Quality | None) -> list[str]:

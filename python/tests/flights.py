@@ -28,9 +28,9 @@ Columns = tuple[list[float], list[float], list[float]]
 """dt, rate and moment."""
 
 
-def noisy_columns() -> Columns:
-    """The noisy flight of the demo, whose answer is 3.5 ticks, 14 ms."""
-    log = identify.read_log(DEMO / "noisy.csv")
+def demo_columns(name: str) -> Columns:
+    """A flight of the demo. The answer of `noisy` is 3.5 ticks, 14 ms."""
+    log = identify.read_log(DEMO / f"{name}.csv")
     return log.dt, log.rate, log.moment
 
 
@@ -42,21 +42,21 @@ def flown(flight: make_flights.Flight) -> Columns:
 
 def lost_samples() -> Columns:
     """900 samples on end without a number."""
-    dt, rate, moment = noisy_columns()
+    dt, rate, moment = demo_columns("noisy")
     rate[300:1200] = moment[300:1200] = [math.nan] * 900
     return dt, rate, moment
 
 
 def moments_of_noise() -> Columns:
     """Moments that have nothing to do with the rates."""
-    dt, rate, moment = noisy_columns()
+    dt, rate, moment = demo_columns("noisy")
     draw = random.Random(2)
     return dt, rate, [draw.gauss(0, 0.1) for _ in moment]
 
 
 def one_dt_of(seconds: float) -> Columns:
     """A tick that is much too long."""
-    dt, rate, moment = noisy_columns()
+    dt, rate, moment = demo_columns("noisy")
     dt[300] = seconds
     return dt, rate, moment
 
@@ -64,7 +64,7 @@ def one_dt_of(seconds: float) -> Columns:
 def scaled(dt: float = 1.0, rate: float = 1.0, moment: float = 1.0) -> Columns:
     """The noisy flight in other units."""
     factors = (dt, rate, moment)
-    return tuple([factor * value for value in column] for factor, column in zip(factors, noisy_columns()))
+    return tuple([factor * value for value in column] for factor, column in zip(factors, demo_columns("noisy")))
 
 
 ALTERED = {

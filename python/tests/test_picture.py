@@ -11,7 +11,7 @@ import warnings
 from pathlib import Path
 from unittest import mock
 
-from flights import ALTERED, identified, odd_columns
+from flights import ALTERED, demo_columns, identified, odd_columns
 from support import DEMO, command, identify, log_text
 
 from identify import cli, picture
@@ -45,10 +45,6 @@ class Pictures(unittest.TestCase):
         """The words of a panel's legend."""
         return [text.get_text() for text in panel.get_legend().get_texts()]
 
-    def demo(self, name):
-        log = identify.read_log(DEMO / f"{name}.csv")
-        return log.dt, log.rate, log.moment
-
     def test_each_kind_and_ending(self):
         starts = {".png": b"\x89PNG", ".svg": b"<?xml"}
         with tempfile.TemporaryDirectory() as folder:
@@ -69,7 +65,7 @@ class Pictures(unittest.TestCase):
                     path.unlink()
 
     def test_short_and_wild_logs(self):
-        dt, rate, moment = self.demo("noisy")
+        dt, rate, moment = demo_columns("noisy")
         for change in ({0: 3e38, 1: -3e38}, {800: float("nan"), 801: 1e10, 802: float("nan")}):
             for place, value in change.items():
                 rate[place] = value
@@ -90,22 +86,22 @@ class Pictures(unittest.TestCase):
                     figure.savefig(io.BytesIO(), format="png")
 
     def test_units_on_each_axis(self):
-        panels = self.panels(self.demo("noisy"))
+        panels = self.panels(demo_columns("noisy"))
         self.assertEqual([panel.get_ylabel() for panel in panels], ["rate, rad/s", "moment, 1 is the limit", "offset, rad/s"])
         self.assertEqual(panels[2].get_xlabel(), "time since the excitation began, s")
 
     def test_the_model_is_drawn_by_itself(self):
-        columns = self.demo("clean")
+        columns = demo_columns("clean")
         panel = self.panels(columns)[0]
         (line,) = (line for line in panel.get_lines() if line.get_label().startswith("model, run by itself for 0.2 s"))
         flight = identified(columns)
         times, rates = next(identify.simulated_stretches(flight.report.model, flight.samples, flight.quality))
         self.assertEqual(list(line.get_xdata()[:51]), times)
         self.assertEqual(list(line.get_ydata()[:51]), rates)
-        self.assertNotIn("model", " ".join(self.labels(self.panels(self.demo("saturated"))[0])))
+        self.assertNotIn("model", " ".join(self.labels(self.panels(demo_columns("saturated"))[0])))
 
     def test_the_limit_and_the_share_at_it(self):
-        panel = self.panels(self.demo("saturated"))[1]
+        panel = self.panels(demo_columns("saturated"))[1]
         limits = sorted(round(float(line.get_ydata()[0]), 3) for line in panel.get_lines() if len(line.get_ydata()) == 2)
         self.assertEqual(limits, [-0.999, 0.999])
         self.assertEqual(self.labels(panel), ["limit, ±0.999: 51.6% of the window at it"])
@@ -118,8 +114,8 @@ class Pictures(unittest.TestCase):
         self.assertEqual(self.labels(panel).count("held"), 1)
 
     def test_the_extension_is_marked_where_it_was_taken(self):
-        self.assertIn("extension begins", self.labels(self.panels(self.demo("noisy"))[0]))
-        dt, rate, moment = self.demo("clean")
+        self.assertIn("extension begins", self.labels(self.panels(demo_columns("noisy"))[0]))
+        dt, rate, moment = demo_columns("clean")
         dt[-60] = 1.0
         panel = self.panels((dt, rate, moment))[0]
         self.assertGreater(panel.get_lines()[0].get_xdata()[-1], 6.5)
@@ -135,11 +131,11 @@ class Pictures(unittest.TestCase):
         self.assertLess(later.get_alpha(), 0.5)
 
     def test_the_quality_stands_in_the_title(self):
-        columns = self.demo("noisy")
+        columns = demo_columns("noisy")
         self.assertIn(quality_words(identified(columns).quality), self.panels(columns)[0].get_title(loc="left"))
 
     def test_so_do_the_warnings(self):
-        for columns, codes in ((self.demo("noisy"), None), (ALTERED["a delay of 60 ms"](), "delay-last, delay-off"),
+        for columns, codes in ((demo_columns("noisy"), None), (ALTERED["a delay of 60 ms"](), "delay-last, delay-off"),
                                (ALTERED["moment in percent"](), "moment-units")):
             heading = self.panels(columns)[0].get_title(loc="left")
             self.assertEqual(heading.partition("\nwarnings: ")[2] or None, codes)
@@ -155,7 +151,7 @@ class Pictures(unittest.TestCase):
             self.assertTrue(path.exists())
 
     def test_a_dollar_begins_no_formula(self):
-        panel = self.panels(self.demo("clean"))[0]
+        panel = self.panels(demo_columns("clean"))[0]
         (heading,) = panel.findobj(lambda part: getattr(part, "get_text", str)() == panel.get_title(loc="left"))
         self.assertFalse(heading.get_parse_math())
 

@@ -4,17 +4,11 @@ import random
 import unittest
 from dataclasses import replace
 
-from flights import ALTERED, NOISY, count_trials, flown, identified, noisy_columns
-from support import DEMO, MOMENT_WEIGHTS, RATE_WEIGHTS, identify, made_flight
+from flights import ALTERED, NOISY, count_trials, demo_columns, flown, identified
+from support import MOMENT_WEIGHTS, RATE_WEIGHTS, identify, made_flight
 
 from identify import quality
 from identify.records import Config, Ending
-
-
-def demo_flight(name):
-    """A flight of the demo."""
-    log = identify.read_log(DEMO / f"{name}.csv")
-    return identified((log.dt, log.rate, log.moment))
 
 
 def true_model(delay, dt_s=0.004):
@@ -34,7 +28,7 @@ class Separates(unittest.TestCase):
     def test_the_demo_flights_are_good(self):
         for name, least in (("clean", 0.9999), ("noisy", 0.98)):
             with self.subTest(name=name):
-                found = demo_flight(name).quality
+                found = identified(demo_columns(name)).quality
                 self.assertTrue(found.is_good)
                 self.assertGreater(found.explained, least)
                 self.assertLess(abs(found.unexplained), 0.002)
@@ -46,7 +40,7 @@ class Separates(unittest.TestCase):
 
     def test_a_flight_that_lost_single_samples_is_good(self):
         draw = random.Random(3)
-        dt, rate, moment = noisy_columns()
+        dt, rate, moment = demo_columns("noisy")
         lost = identified((dt, [math.nan if draw.random() < 0.05 else value for value in rate], moment))
         self.assertGreater(lost.report.held, 80)
         self.assertTrue(lost.quality.is_good)
@@ -133,12 +127,12 @@ class Figures(unittest.TestCase):
                 self.assertEqual(identify.Quality(explained, 0.0, 0.0, noise, 0.0, 100).explains_little, little)
 
     def test_the_noise_is_the_gyro_s(self):
-        readings = quality.on_model_clock(demo_flight("noisy").samples, 0.004)
+        readings = quality.on_model_clock(identified(demo_columns("noisy")).samples, 0.004)
         self.assertAlmostEqual(math.sqrt(quality.noise_variance(readings)), NOISY.noise, delta=0.002)
         self.assertEqual(quality.noise_variance(readings[:2]), 0.0)
 
     def test_a_trim_is_drift_and_costs_nothing(self):
-        found = demo_flight("clean").quality
+        found = identified(demo_columns("clean")).quality
         # The clean flight has a constant moment of 0.01 from outside, and its push is 40.
         self.assertAlmostEqual(found.drift_radps, 40 * 0.01 * quality.HORIZON_S, delta=0.001)
 
@@ -166,7 +160,7 @@ class Clock(unittest.TestCase):
     """The window on the model's clock."""
 
     def test_even_ticks_are_the_samples(self):
-        samples = demo_flight("noisy").samples
+        samples = identified(demo_columns("noisy")).samples
         readings = quality.on_model_clock(samples, 0.00400007)
         self.assertEqual([(r.rate, r.moment, r.good) for r in readings], [(s.rate, s.moment, not s.held) for s in samples])
 
@@ -196,7 +190,7 @@ class Simulated(unittest.TestCase):
             self.assertAlmostEqual(found, expected, places=12)
 
     def test_clean_flight_is_followed(self):
-        flight = demo_flight("clean")
+        flight = identified(demo_columns("clean"))
         stretches = list(identify.simulated_stretches(flight.report.model, flight.samples, flight.quality))
         self.assertEqual(len(stretches), 29)
         by_time = {round(sample.time_s, 3): sample.rate for sample in flight.samples}

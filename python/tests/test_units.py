@@ -7,7 +7,7 @@ import unittest
 
 from support import DEMO, MOMENT_WEIGHTS, identify, made_flight
 
-from identify import library, wire
+from identify import library
 from identify.records import Config, Ending
 
 DT = 0.25

@@ -4,7 +4,7 @@ import math
 import unittest
 from dataclasses import replace
 
-from flights import ALTERED, NOISY, codes, flown, identified, noisy_columns, scaled
+from flights import ALTERED, NOISY, codes, demo_columns, flown, identified, scaled
 from support import DEMO, command, gainless_flight, identify, log_text, made_flight, wild_log
 
 from identify import checks
@@ -19,7 +19,7 @@ def text_of(code, flight):
 
 def noisy_with(dt=None, rate=None, moment=None):
     """The noisy flight with some values replaced, by their places."""
-    columns = noisy_columns()
+    columns = demo_columns("noisy")
     for column, values in zip(columns, (dt, rate, moment)):
         for place, value in (values or {}).items():
             column[place] = value
@@ -32,8 +32,7 @@ class Good(unittest.TestCase):
     def test_the_demo_flights_have_no_warning(self):
         for name in ("clean", "noisy", "saturated"):
             with self.subTest(name=name):
-                log = identify.read_log(DEMO / f"{name}.csv")
-                self.assertEqual(codes(identified((log.dt, log.rate, log.moment))), [])
+                self.assertEqual(codes(identified(demo_columns(name))), [])
 
     def test_other_noise_of_the_same_airframe_has_none(self):
         for seed in range(1, 8):
@@ -147,7 +146,7 @@ class Log(unittest.TestCase):
         self.assertEqual(codes(noisy_with(dt={2050: 0.0})), [])
 
     def test_turned_back_at_the_end_of_a_short_log(self):
-        dt, rate, moment = (column[:300] for column in noisy_columns())
+        dt, rate, moment = (column[:300] for column in demo_columns("noisy"))
         self.assertEqual(codes(identified((dt[:-1] + [0.0], rate, moment))), ["turned-back"])
 
     def test_many_held(self):
