@@ -29,8 +29,10 @@ MANY = 0.1
 """More than this share is many."""
 GAP_S = 0.1
 """The integrated fit weighs changes over this time: of what lies before a longer gap it keeps little."""
-FEW_ROWS = 120
-"""Twenty rows for each of the six unknowns of the fit on the recorded rates."""
+TERMS = 6
+"""Unknowns of the fit on the recorded rates: with fewer rows it has no answer."""
+FEW_ROWS = 20 * TERMS
+"""Fewer rows than this tell the unknowns badly apart."""
 SHORTEST, LONGEST_RECORDED, LONGEST_INTEGRATED = 2, 20, 21
 """The shortest delay that both fits try, and the longest that each does, in half ticks."""
 

@@ -1,13 +1,11 @@
 """Why a probe has no model, and what to do about it."""
 from __future__ import annotations
 
-from .checks import moment_units, wild_rate_readings
+from .checks import TERMS, moment_units, wild_rate_readings
 from .flight import Flight
 from .records import Ending
 from .window import at_limit
 
-TERMS = 6
-"""Unknowns of the fit on the recorded rates: with fewer rows it has no answer."""
 SQUARABLE_RATE = 1.8e19
 """The square of a rate beyond this, in rad/s, is beyond single precision."""
 
