@@ -1,6 +1,8 @@
-"""What the tests share: the package's path, a made flight, and the command."""
+"""What the tests share: the package's path, a made flight, the command, and C programs linked with a library."""
 from __future__ import annotations
 
+import functools
+import os
 import random
 import subprocess
 import sys
@@ -8,9 +10,11 @@ from pathlib import Path
 
 ROOT = Path(__file__).resolve().parents[2]
 DEMO = ROOT / "demo"
+HEADER = ROOT / "include/identify.h"
 sys.path.insert(0, str(ROOT / "python"))
 
 import identify
+from identify import library
 
 M1_CONFIG = identify.Config(1.0, 1.0, 0.5, None)
 POLE = 0.85
@@ -72,6 +76,32 @@ def at(values: list[float], tick: int) -> float:
 def log_text(dt: list[float], rate: list[float], moment: list[float]) -> str:
     """A flight as a log."""
     return "dt,rate,moment\n" + "".join(",".join(map(repr, call)) + "\n" for call in zip(dt, rate, moment))
+
+
+def byte_library() -> Path:
+    """The library of the functions over bytes."""
+    named = os.environ.get(library.VARIABLE)
+    return Path(named).resolve() if named else library.built(ROOT)
+
+
+@functools.cache
+def live_library() -> Path:
+    """The library of a probe in flight, liblive.a: the one that IDENTIFY_LIVE names, or built from the sources."""
+    named = os.environ.get("IDENTIFY_LIVE")
+    if named:
+        return Path(named).resolve()
+    library.command(("rt", "staticlib", "live"), ROOT)
+    return ROOT / "target/staticlib/liblive.a"
+
+
+def compiled(folder: Path, archive: Path, source: str, *words: str, compiler: str = "cc", standard: str = "c11") -> Path:
+    """A program in `folder`, made of a C source and a library by a C or a C++ compiler, with no warning."""
+    language = standard.rstrip("0123456789")
+    strict = (f"-std={standard}", "-Wall", "-Wextra", "-Werror", "-pedantic")
+    parts = ("-I", str(HEADER.parent), "-x", language, "-", "-x", "none", str(archive), f"-Wl,-rpath,{archive.parent}")
+    program = folder / "program"
+    subprocess.run((compiler, *strict, *words, *parts, "-o", str(program)), input=source, text=True, check=True)
+    return program
 
 
 def command(*words: str, given: str = "") -> subprocess.CompletedProcess[str]:

@@ -1,16 +1,11 @@
 """C callers, compiled against the real library and run: the header's example, M1, and the demo's delay."""
-import os
 import re
 import subprocess
 import tempfile
 import unittest
 from pathlib import Path
 
-from support import DEMO, ROOT
-
-from identify import library
-
-HEADER = ROOT / "include/identify.h"
+from support import DEMO, HEADER, byte_library, compiled
 
 M1 = r"""
 #include "identify.h"
@@ -41,14 +36,8 @@ def example() -> str:
 
 def run(source: str, *given: str) -> str:
     """What a C program writes that is linked with the library: for each text that it reads, or once for none."""
-    named = os.environ.get(library.VARIABLE)
-    archive = Path(named).resolve() if named else library.built(ROOT)
-    with tempfile.TemporaryDirectory() as name:
-        folder = Path(name)
-        (folder / "program.c").write_text(source, encoding="utf8")
-        words = ("cc", "-std=c99", "-Wall", "-Wextra", "-Werror", "-pedantic", "-I", str(HEADER.parent), "program.c", str(archive))
-        subprocess.run((*words, f"-Wl,-rpath,{archive.parent}", "-o", "program"), cwd=folder, check=True)
-        program = folder / "program"
+    with tempfile.TemporaryDirectory() as folder:
+        program = compiled(Path(folder), byte_library(), source, standard="c99")
         runs = (subprocess.run((program,), input=text, capture_output=True, text=True, check=True) for text in given or ("",))
         return "".join(run.stdout for run in runs)
 

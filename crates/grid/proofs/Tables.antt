@@ -15,11 +15,9 @@ use Rattle.gain.specs.declared.GainFit.{GainFit}
 use Rattle.gain.specs.declared.GainFit.the-variants.{Nothing}
 use Rattle.gain.specs.declared.Shared.{Shared}
 use Rattle.gain.specs.Gain.{stepCount}
-use Rattle.gain.specs.Prepared.{ticksOf, fitWith}
-use Rattle.lanes.specs.Lanes.{laneCount, woven, laneSeries}
+use Rattle.gain.specs.Prepared.{fitWith}
 use Rattle.float.proofs.Fill.{length-fill, filled, unfilled}
-use Rattle.kernel.specs.Kernel.{placeCount, placeOf, placeFit}
-use Rattle.kernel.proofs.Places.{place-fit}
+use Rattle.kernel.specs.Kernel.{placeCount, placeOf, stepAt, poleAt, placeFit}
 use Rattle.grid.specs.declared.Kept.{Kept}
 use Rattle.grid.specs.declared.Kept.the-variants.{Empty}
 use Rattle.grid.specs.Grid.{candidate, keepOf, keptTo, lowEnd, pickEnd, highEnd, keptAt}
@@ -69,37 +67,40 @@ at-place dt p i k h e q = let z : min k lagCount ≡ i = omega arith in q ∙ ap
 is-above : (dt p : Float) (i k : ℕ) → i ≤ lagCount → k ≡ i + 1 → p ≡ upTo dt k → p ≡ highEnd (poleOf dt) lagCount i
 is-above dt p i k h e q = q ∙ ap (upTo dt) e ∙ sym (above (poleOf dt) lagCount i h)
 
--- what pole i leaves of the table, which is pole q of the three whose regressors are woven in xs
-pole-more : (dt : Float) (u : ℕ → Float) (cs ts l xs poles : List Float) (w : Shared) (i q : ℕ) (fits : List GainFit) (low high : Float) (kept : List Kept)
-    → length l ≡ 12288 → q < 3 → at poles q ≡ poleOf dt i → low ≡ lowEnd (poleOf dt) i → high ≡ highEnd (poleOf dt) lagCount i
-    → xs ≡ fill (woven (laneSeries poles u)) l ((ticksOf w + 11) * laneCount) → fits ≡ fill (placeFit xs cs ts w) (replicate placeCount Nothing) placeCount
-    → kept ≡ tableOf (keptBelow dt (fitWith w u (at cs) (at ts)) i)
+-- the fit of step s at pole q of three, by its place
+fit-at : (poles cs ts : List Float) (w : Shared) (u : ℕ → Float) (fits : List GainFit) (q s : ℕ) → q < 3 → s < stepCount
+    → fits ≡ fill (placeFit poles cs ts w u) (replicate placeCount Nothing) placeCount → getD fits (placeOf q s) Nothing ≡ fitWith w u (at cs) (at ts) s (at poles q)
+fit-at poles cs ts w u fits q s z y f =
+    let a : stepAt (placeOf q s) ≡ s = omega arith in
+    let b : poleAt (placeOf q s) ≡ q = omega arith in
+    ap (λ (v : List GainFit). getD v (placeOf q s) Nothing) f
+    ∙ filled (placeFit poles cs ts w u) (replicate placeCount Nothing) Nothing placeCount (placeOf q s) (rw length-replicate (omega arith)) (omega arith)
+    ∙ (λ j. fitWith w u (at cs) (at ts) (a j) (at poles (b j)))
+
+-- what pole i leaves of the table, which is pole q of the three that the fits are of
+pole-more : (dt : Float) (u : ℕ → Float) (cs ts poles : List Float) (w : Shared) (i q : ℕ) (fits : List GainFit) (low high : Float) (kept : List Kept)
+    → q < 3 → at poles q ≡ poleOf dt i → low ≡ lowEnd (poleOf dt) i → high ≡ highEnd (poleOf dt) lagCount i
+    → fits ≡ fill (placeFit poles cs ts w u) (replicate placeCount Nothing) placeCount → kept ≡ tableOf (keptBelow dt (fitWith w u (at cs) (at ts)) i)
     → fill (against (at poles q) low high fits q) kept stepCount ≡ tableOf (keptBelow dt (fitWith w u (at cs) (at ts)) (suc i))
 unfolding keptTo
-pole-more dt u cs ts l xs poles w i q fits low high kept long z p a b x f k =
-    rw k (table-against (at poles q) low high fits q _ _ (λ s y.
-    let g : getD fits (placeOf q s) Nothing ≡ fitWith w u (at cs) (at ts) s (at poles q) =
-    ap (λ (v : List GainFit). getD v (placeOf q s) Nothing) f
-    ∙ filled (placeFit xs cs ts w) (replicate placeCount Nothing) Nothing placeCount (placeOf q s) (rw length-replicate (omega arith)) (omega arith)
-    ∙ place-fit u cs ts poles l xs w q s long z y x in
-    rw (g, p, a, b) refl))
+pole-more dt u cs ts poles w i q fits low high kept z p a b f k =
+    rw k (table-against (at poles q) low high fits q _ _ (λ s y. rw (fit-at poles cs ts w u fits q s z y f, p, a, b) refl))
 
 -- what three poles leave of it, from pole 3·i on
-pub three-more : (dt : Float) (u : ℕ → Float) (cs ts l xs : List Float) (w : Shared) (i : ℕ) (fits : List GainFit) (p₀ p₁ p₂ low high : Float) (kept : List Kept)
-    → length l ≡ 12288 → i < 43 → p₀ ≡ upTo dt (i * 3) → p₁ ≡ upTo dt (i * 3 + 1) → p₂ ≡ upTo dt (i * 3 + 2) → low ≡ lowEnd (poleOf dt) (i * 3) → high ≡ upTo dt (i * 3 + 3)
-    → xs ≡ fill (woven (laneSeries (p₀ ∷ p₁ ∷ p₂ ∷ []) u)) l ((ticksOf w + 11) * laneCount) → fits ≡ fill (placeFit xs cs ts w) (replicate placeCount Nothing) placeCount
-    → kept ≡ tableOf (keptBelow dt (fitWith w u (at cs) (at ts)) (i * 3))
+pub three-more : (dt : Float) (u : ℕ → Float) (cs ts : List Float) (w : Shared) (i : ℕ) (fits : List GainFit) (p₀ p₁ p₂ low high : Float) (kept : List Kept)
+    → i < 43 → p₀ ≡ upTo dt (i * 3) → p₁ ≡ upTo dt (i * 3 + 1) → p₂ ≡ upTo dt (i * 3 + 2) → low ≡ lowEnd (poleOf dt) (i * 3) → high ≡ upTo dt (i * 3 + 3)
+    → fits ≡ fill (placeFit (p₀ ∷ p₁ ∷ p₂ ∷ []) cs ts w u) (replicate placeCount Nothing) placeCount → kept ≡ tableOf (keptBelow dt (fitWith w u (at cs) (at ts)) (i * 3))
     → fill (against p₂ p₁ high fits 2) (fill (against p₁ p₀ p₂ fits 1) (fill (against p₀ low p₁ fits 0) kept stepCount) stepCount) stepCount
     ≡ tableOf (keptBelow dt (fitWith w u (at cs) (at ts)) ((i + 1) * 3))
 unfolding lowEnd
-three-more dt u cs ts l xs w i fits p₀ p₁ p₂ low high kept long z e₀ e₁ e₂ a b x f k =
+three-more dt u cs ts w i fits p₀ p₁ p₂ low high kept z e₀ e₁ e₂ a b f k =
     let poles = p₀ ∷ p₁ ∷ p₂ ∷ [] in
     let j = i * 3 in
     let s₃ : (i + 1) * 3 ≡ suc (suc (suc j)) = omega arith in
-    let one = pole-more dt u cs ts l xs poles w j 0 fits low p₁ kept long (omega arith)
-    (at-place dt p₀ j j (omega arith) refl e₀) a (is-above dt p₁ j (j + 1) (omega arith) refl e₁) x f k in
-    let two = pole-more dt u cs ts l xs poles w (suc j) 1 fits p₀ p₂ _ long (omega arith)
-    (at-place dt p₁ (suc j) (j + 1) (omega arith) (omega arith) e₁) (at-place dt p₀ j j (omega arith) refl e₀) (is-above dt p₂ (suc j) (j + 2) (omega arith) (omega arith) e₂) x f one in
-    rw s₃ (pole-more dt u cs ts l xs poles w (suc (suc j)) 2 fits p₁ high _ long (omega arith)
+    let one = pole-more dt u cs ts poles w j 0 fits low p₁ kept (omega arith)
+    (at-place dt p₀ j j (omega arith) refl e₀) a (is-above dt p₁ j (j + 1) (omega arith) refl e₁) f k in
+    let two = pole-more dt u cs ts poles w (suc j) 1 fits p₀ p₂ _ (omega arith)
+    (at-place dt p₁ (suc j) (j + 1) (omega arith) (omega arith) e₁) (at-place dt p₀ j j (omega arith) refl e₀) (is-above dt p₂ (suc j) (j + 2) (omega arith) (omega arith) e₂) f one in
+    rw s₃ (pole-more dt u cs ts poles w (suc (suc j)) 2 fits p₁ high _ (omega arith)
     (at-place dt p₂ (suc (suc j)) (j + 2) (omega arith) (omega arith) e₂) (at-place dt p₁ (suc j) (j + 1) (omega arith) (omega arith) e₁)
-    (is-above dt high (suc (suc j)) (j + 3) (omega arith) (omega arith) b) x f two)
+    (is-above dt high (suc (suc j)) (j + 3) (omega arith) (omega arith) b) f two)

@@ -79,17 +79,14 @@ pub fn keep_poles(
 ) -> [Kept; 20]
     ensures { λ r. ⌜ KeptTable «dt_s» (fitWith w (at (now (moments .entry))) (at (now (cs .entry))) (at (now (ts .entry)))) r ⌝ }
 {
-    let len = w.fitted() + 11;
     let mut kept = [Kept::Empty; 20];
-    let mut xs = [0.0f64; 12288];
     let mut low = 0.0f32;
     let mut pole = 0.0f32;
     for i in 0..43usize {
         let second = lags::pole(dt_s, i * 3 + 1);
         let third = lags::pole(dt_s, i * 3 + 2);
         let high = lags::pole(dt_s, i * 3 + 3);
-        lanes::lag_through(moments, [pole, second, third], len, &mut xs);
-        let fits = kernel::fit_steps(&xs, cs, ts, w);
+        let fits = kernel::fit_steps(moments, [pole, second, third], cs, ts, w);
         let one = keep_each(kept, pole, low, second, fits, 0);
         let two = keep_each(one, second, pole, third, fits, 1);
         kept = keep_each(two, third, second, high, fits, 2);

@@ -1,64 +1,38 @@
--- The sums of all places, filled in one place after another; once all are there, each place has the sums of its series, and they solve to its fit.
-use Prim.Native.Nat.{ℕ, _+_, _-_, _*_, _/_, _%_, _<_}
+-- Once a place has the sums of its series over all ticks, they solve to the fit of its step at its pole.
+use Prim.Native.Nat.{ℕ, zero, suc, _+_, _-_, _/_, _%_}
 use mathlib.Core.Path.{_≡_, refl}
 use mathlib.Core.List.{List}
 use native.Mathlib.Numerals.{add-one}
 use native.Mathlib.Omega.{arith}
-use lib.ListN.{length, set, replicate, length-replicate}
-use lib.Ieee.{Float, nan, binary64}
-use Rattle.float.specs.Values.{zero64}
-use Rattle.float.specs.Series.{at, dotTo, fill}
+use lib.Ieee.{Float}
+use Rattle.float.specs.Series.{at}
 use Rattle.gain.specs.declared.Shared.{Shared}
 use Rattle.gain.specs.declared.StepSums.{StepSums}
-use Rattle.gain.specs.Gain.{firstTick, stepCount, through}
-use Rattle.gain.specs.Prepared.{ticksOf, fittedWith, fitWith, Summed}
-use Rattle.lanes.specs.Lanes.{laneCount, woven, laneSeries}
-use Rattle.float.proofs.Fill.{filled, fill-more}
-use Rattle.lanes.proofs.Fit.{lane-fit}
-use Rattle.kernel.specs.Kernel.{placeCount, sumsAt, placeOf, placeSeries}
+use Rattle.gain.specs.Gain.{firstTick, wholeTicksOf, isHalf, felt, regressor, solved}
+use Rattle.gain.specs.Prepared.{ticksOf, fitWith}
+use Rattle.gain.proofs.Accumulators.{Running, start, next}
+use Rattle.gain.proofs.Window.{solved-is}
+use Rattle.lanes.specs.Lanes.{laneCount}
+use Rattle.kernel.specs.Kernel.{Sums, sumsOn, noSums, tickSeries, tickSums, stepAt, poleAt}
 
--- lane h of whole tick d + 1 is place 6·d + h
-pub lane-is : (xs : List Float) (d h : ℕ) → h < laneCount → (λ (i : ℕ). at xs ((firstTick - d) * laneCount + i * laneCount + h)) ≡ placeSeries xs (d * laneCount + h)
-lane-is xs d h p =
-    λ j. λ i. let e : (firstTick - d) * laneCount + i * laneCount + h ≡ (firstTick - (d * laneCount + h) / laneCount) * laneCount + (d * laneCount + h) % laneCount + i * laneCount = omega arith in at xs (e j)
+-- the three sums without m
+abbrev three : Sums → StepSums
+three s = record { mm = s .mm; mc = s .mc; mt = s .mt }
 
--- m has the series of each place
-module _ (m : ℕ → ℕ → Float) (c t : ℕ → Float) (n : ℕ) where
-  -- a list of zeros with a sum in each of the first k places
-  abbrev Filled : (ℕ → ℕ → Float) → ℕ → List Float → Type 0
-  Filled y k l = l ≡ fill (λ p l. dotTo binary64 (m p) (y p) n) (replicate placeCount zero64) k
+running : (carry : Float) (x c t : ℕ → Float) (n : ℕ) → Running carry x c t n (sumsOn carry x c t noSums n .m) (three (sumsOn carry x c t noSums n))
+unfolding sumsOn
+running carry x c t zero = start carry x c t
+running carry x c t (suc n) = rw add-one at (next carry x c t n _ _ (x n) (running carry x c t n) refl)
 
-  pub record Places (k : ℕ) (mm mc mt : List Float) : Type 0 where
-    pub squares : Filled m k mm
-    pub constants : Filled (λ p. c) k mc
-    pub targets : Filled (λ p. t) k mt
+-- the series of a place is that of its step at its pole
+step-series : (poles : List Float) (u : ℕ → Float) (p : ℕ) → tickSeries poles u (p / laneCount) (p % laneCount) ≡ regressor (stepAt p) (at poles (poleAt p)) u
+step-series poles u p =
+    let a : p % laneCount % 2 ≡ isHalf (stepAt p) = omega arith in
+    let b : firstTick - p / laneCount ≡ firstTick + 1 - wholeTicksOf (stepAt p) = omega arith in
+    λ j. λ i. felt (at poles (poleAt p)) u (a j) (b j + i)
 
-  pub none : Places 0 (replicate placeCount zero64) (replicate placeCount zero64) (replicate placeCount zero64)
-  unfolding fill
-  none = record { squares = refl; constants = refl; targets = refl }
-
-  pub one-more : (k : ℕ) (mm mc mt : List Float) (s : StepSums) → Places k mm mc mt → Summed (m k) c t n s → Places (k + 1) (set mm k (s .mm)) (set mc k (s .mc)) (set mt k (s .mt))
-  one-more k mm mc mt s l h = record {
-    squares = fill-more _ _ _ k (k + 1) _ (l .squares) (h .squares) (add-one k);
-    constants = fill-more _ _ _ k (k + 1) _ (l .constants) (h .constants) (add-one k);
-    targets = fill-more _ _ _ k (k + 1) _ (l .targets) (h .targets) (add-one k);
-  }
-
-  -- what a full list has at place p
-  there : (y : ℕ → ℕ → Float) (l : List Float) → Filled y placeCount l → (p : ℕ) → p < placeCount → at l p ≡ dotTo binary64 (m p) (y p) n
-  there y l e p q = rw e (filled _ (replicate placeCount zero64) nan placeCount p (rw length-replicate (omega arith)) q)
-
-  pub all-summed : (mm mc mt : List Float) → Places placeCount mm mc mt → (p : ℕ) → p < placeCount → Summed (m p) c t n (sumsAt mm mc mt p)
-  all-summed mm mc mt l p q = record {
-    squares = there m mm (l .squares) p q;
-    constants = there (λ p. c) mc (l .constants) p q;
-    targets = there (λ p. t) mt (l .targets) p q;
-  }
-
--- with the regressors of three poles woven in xs, the fit of a place is that of its step at its pole
-pub place-fit : (u : ℕ → Float) (cs ts poles l xs : List Float) (w : Shared) (q s : ℕ) → length l ≡ 12288 → q < 3 → s < stepCount
-    → xs ≡ fill (woven (laneSeries poles u)) l ((ticksOf w + 11) * laneCount) → fittedWith w (through (w .carry) (placeSeries xs (placeOf q s))) (at cs) (at ts) ≡ fitWith w u (at cs) (at ts) s (at poles q)
-place-fit u cs ts poles l xs w q s long p o x =
-    let is : placeSeries xs (placeOf q s) ≡ (λ (i : ℕ). at xs ((firstTick - s / 2) * laneCount + (q * 2 + s % 2) + i * laneCount)) =
-    λ j. λ i. let e : (firstTick - placeOf q s / laneCount) * laneCount + placeOf q s % laneCount + i * laneCount ≡ (firstTick - s / 2) * laneCount + (q * 2 + s % 2) + i * laneCount = omega arith in at xs (e j) in
-    rw is (lane-fit u (at cs) (at ts) w poles l xs q s long p o x)
+pub place-fit : (poles cs ts : List Float) (w : Shared) (u : ℕ → Float) (p : ℕ) (s : Sums) → s ≡ tickSums poles cs ts (w .carry) u (p / laneCount) (p % laneCount) (ticksOf w)
+    → solved (s .mm) (s .mc) (w .cc) (s .mt) (w .ct) (w .tt) ≡ fitWith w u (at cs) (at ts) (stepAt p) (at poles (poleAt p))
+place-fit poles cs ts w u p s e =
+    rw (e, ← (step-series poles u p))
+    (solved-is _ (at cs) (at ts) (three (tickSums poles cs ts (w .carry) u (p / laneCount) (p % laneCount) (ticksOf w))) w (running (w .carry) _ (at cs) (at ts) (ticksOf w) .sums))

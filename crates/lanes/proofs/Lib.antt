@@ -1,3 +1,3 @@
 pub mod Woven
 pub mod Poles
-pub mod Fit
+pub mod Blocks

@@ -15,12 +15,20 @@ pub fn named() -> Option<PathBuf> {
         .ancestors()
         .nth(2)
         .expect("a crate of host/ is in the project");
-    let library = project.join(given);
+    Some(there(project.join(given)))
+}
+
+/// The static library of this name in the folder of another. The build stops where there is none.
+pub fn beside(library: &Path, name: &str) -> PathBuf {
+    there(library.with_file_name(name))
+}
+
+fn there(library: PathBuf) -> PathBuf {
     println!("cargo::rerun-if-changed={}", library.display());
     if !library.is_file() {
         stop(&format!("no static library at {}", library.display()));
     }
-    Some(library)
+    library
 }
 
 /// Links a static library and sets the configuration `identify_lib`.

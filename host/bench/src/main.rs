@@ -7,8 +7,9 @@ use std::hint::black_box;
 use std::process::ExitCode;
 use std::time::{Duration, Instant};
 
-use library::{ByteRun, PlainUnits};
-use reference::byte_run::{byte_run, written_len};
+use library::{ByteRun, Live, LiveProbe, PlainUnits};
+use reference::access::IdentifyProbe;
+use reference::byte_run::{Call, byte_run, calls_of, config_of, word_at, written_len};
 use reference::plain_units::plain_units;
 
 const DT_S: f32 = 0.004;
@@ -87,6 +88,83 @@ fn times(run: &Run, library: ByteRun, repetitions: usize) -> Vec<(f64, f64)> {
     pairs
 }
 
+/// A step's times in s.
+struct StepTimes {
+    /// The Rust's own `step`, without a refusal around it.
+    reference: f64,
+    live: f64,
+    byte_run: f64,
+}
+
+/// Calls one after the other, from native floats to native offsets; the time of all in s.
+fn time_calls(calls: &[Call], offsets: &mut [f32], mut step: impl FnMut(Call, &mut f32)) -> f64 {
+    let start = Instant::now();
+    for (call, offset) in black_box(calls).iter().zip(&mut *offsets) {
+        step(*call, offset);
+    }
+    black_box(offsets);
+    start.elapsed().as_secs_f64()
+}
+
+/// A live step. The library's constant is called, and so without a pointer, as from C.
+fn live_step(probe: &mut LiveProbe, call: Call, offset: &mut f32) {
+    if let Some(live) = library::LIVE {
+        (live.step)(probe, [call.dt, call.rate, call.moment], offset);
+    }
+}
+
+/// The three times of the steps of a run, one set a repetition; the offsets are compared.
+fn step_times(run: &Run, library: ByteRun, live: Live, repetitions: usize) -> Vec<StepTimes> {
+    let calls: Vec<Call> = calls_of(&run.calls).collect();
+    let config = std::array::from_fn(|place| word_at(&run.config, place));
+    let mut output = vec![0; written_len(calls.len())];
+    let [mut ours, mut theirs] = [(); 2].map(|()| vec![0.0f32; calls.len()]);
+    let per = calls.len() as f64;
+    let mut probe = Box::new(LiveProbe::ZERO);
+    let times = (0..repetitions)
+        .map(|_| {
+            assert_eq!((live.open)(&mut probe, &config, 0), 0, "open");
+            let live = time_calls(&calls, &mut ours, |call, offset| {
+                live_step(&mut probe, call, offset);
+            });
+            let byte_run = run.time(library, &mut output).as_secs_f64();
+            let mut own = Box::new(IdentifyProbe::new(config_of(&run.config)));
+            let reference = time_calls(&calls, &mut theirs, |call, offset| {
+                *offset = own.step(call.dt, call.rate, call.moment);
+            });
+            StepTimes {
+                reference: reference / per,
+                live: live / per,
+                byte_run: byte_run / per,
+            }
+        })
+        .collect();
+    let bits = |offsets: &[f32]| {
+        offsets
+            .iter()
+            .map(|offset| offset.to_bits())
+            .collect::<Vec<_>>()
+    };
+    assert_eq!(bits(&ours), bits(&theirs), "the offsets differ");
+    times
+}
+
+/// The live step beside the Rust's own, and over the byte run's.
+fn step_lines(what: &str, times: &[StepTimes]) {
+    let pairs: Vec<(f64, f64)> = times
+        .iter()
+        .map(|time| (time.reference, time.live))
+        .collect();
+    line(what, &pairs, 1e9, "ns");
+    println!(
+        "{:<44} byte run  {:>7.2} ns, live    {:>7.2} ns, live over byte run {:.2}",
+        "",
+        median(times.iter().map(|time| time.byte_run * 1e9)),
+        median(times.iter().map(|time| time.live * 1e9)),
+        median(times.iter().map(|time| time.live / time.byte_run)),
+    );
+}
+
 /// The reports of `count` done models, with poles from 0 to 1.
 fn reports(count: usize) -> Vec<u8> {
     let mut random = Noise(1);
@@ -138,7 +216,9 @@ fn ending(ticks: usize, noise: f32) -> Run {
 }
 
 fn main() -> ExitCode {
-    let (Some(library), Some(units)) = (library::BYTE_RUN, library::PLAIN_UNITS) else {
+    let (Some(library), Some(units), Some(live)) =
+        (library::BYTE_RUN, library::PLAIN_UNITS, library::LIVE)
+    else {
         eprintln!("bench: set IDENTIFY_LIB to the static library and build again (host/README.md)");
         return ExitCode::from(2);
     };
@@ -167,6 +247,15 @@ fn main() -> ExitCode {
         &step,
         1e9 / running.calls() as f64,
         "ns",
+    );
+    step_lines(
+        "a live step while running, of 200,000",
+        &step_times(&running, library, live, 51),
+    );
+    let full = Run::new(2_048, 3_600.0, 0.1);
+    step_lines(
+        "a live step while storing, of 2,048",
+        &step_times(&full, library, live, 501),
     );
     let count = 10_000;
     line(

@@ -1,18 +1,40 @@
 //! One list through the reference and through the subject.
 
 use library::PlainUnits;
+use lists::Family;
+use lists::random::Random;
 use reference::checked::{Answer, checked_run};
 use reference::plain_units::{UNITS_LEN, plain_units};
 use reference::probe::REPORT_LEN;
 
+use crate::live::{Course, Flight, Part};
 use crate::subject::Subject;
 
-/// The inputs of a byte run.
+/// The inputs of a byte run, and of the live functions.
 #[derive(Clone, Debug, PartialEq)]
 pub struct Input {
     pub config: Vec<u8>,
     pub calls: Vec<u8>,
     pub output_len: usize,
+    /// The seed of the bytes that a live probe's memory holds before it is opened.
+    pub memory: u64,
+}
+
+impl Input {
+    /// List `number` of `seed`, of one family alone where it is named; and its family.
+    pub fn numbered(family: Option<&Family>, seed: u64, number: u64) -> (&'static str, Input) {
+        let list = match family {
+            None => lists::list(seed, number),
+            Some(family) => lists::of_family(family, seed, number),
+        };
+        let input = Input {
+            config: list.config,
+            calls: list.calls,
+            output_len: list.output_len,
+            memory: Random::numbered(!seed, number).bits(),
+        };
+        (list.family, input)
+    }
 }
 
 /// What a call returns, and its output after it.
@@ -37,27 +59,45 @@ fn untouched(len: usize) -> Vec<u8> {
     (0..len).map(|place| (place * 31 + 0xa5) as u8).collect()
 }
 
-/// A program's answers to a list: its byte run, and the plain units of the report in it.
+/// A program's answers to a list: its byte run, the plain units of the report in it, and the same
+/// calls flown with the live functions.
 #[derive(Clone, Debug, PartialEq)]
 pub struct Answers {
     pub run: Returned,
     pub units: Option<Returned>,
+    /// None where the byte run's sizes are wrong.
+    pub flight: Option<Flight>,
 }
 
 impl Answers {
     /// The answers of a run; one that is refused has no report.
-    fn of(run: Returned, plain_units: PlainUnits) -> Answers {
+    fn of(run: Returned, plain_units: PlainUnits, flight: Option<Flight>) -> Answers {
         let report = run.output.get(..REPORT_LEN).filter(|_| run.result == 0);
         let units =
             report.map(|report| Returned::by(UNITS_LEN, |output| plain_units(report, output)));
-        Answers { run, units }
+        Answers { run, units, flight }
     }
 }
 
-/// Two programs' answers that differ.
-pub struct Difference {
+/// Both programs' answers to a list.
+pub struct Compared {
+    /// What the reference's are.
+    pub answer: Answer,
     pub expected: Answers,
     pub found: Answers,
+}
+
+impl Compared {
+    /// Whether the subject's return values, any byte of its outputs, or its flight is another.
+    pub fn differ(&self) -> bool {
+        self.found != self.expected
+    }
+
+    /// The first part in which the flights differ.
+    pub fn flights_differ_in(&self) -> Option<Part> {
+        let expected = self.expected.flight.as_ref()?;
+        expected.differs_in(self.found.flight.as_ref()?)
+    }
 }
 
 /// The reference's answer to a list, and what its byte run returns.
@@ -68,15 +108,23 @@ pub fn reference_run(input: &Input) -> (Answer, Returned) {
     (answer, Returned { result, output })
 }
 
-/// The reference's answer, and the difference where the subject's return values or any byte of
-/// its outputs is another.
-pub fn compared(subject: Subject, input: &Input) -> (Answer, Option<Difference>) {
+/// The reference's and the subject's answers.
+pub fn compared(subject: Subject, input: &Input) -> Compared {
     let (answer, run) = reference_run(input);
-    let expected = Answers::of(run, plain_units);
+    let (flight, found_flight) = Course::of(input, &run)
+        .map(|course| {
+            let expected = course.expected(answer.window.as_ref());
+            (expected, course.flown(subject.live))
+        })
+        .unzip();
+    let expected = Answers::of(run, plain_units, flight);
     let run = Returned::by(input.output_len, |output| {
         (subject.byte_run)(&input.config, &input.calls, output)
     });
-    let found = Answers::of(run, subject.plain_units);
-    let difference = (found != expected).then_some(Difference { expected, found });
-    (answer, difference)
+    let found = Answers::of(run, subject.plain_units, found_flight);
+    Compared {
+        answer,
+        expected,
+        found,
+    }
 }

@@ -5,6 +5,7 @@ use std::collections::BTreeMap;
 use reference::checked::{Answer, Ending};
 
 use crate::lag::Lag;
+use crate::live::{Flight, turned_back};
 
 #[derive(Default)]
 pub struct Counts {
@@ -21,6 +22,10 @@ pub struct Counts {
     rounds: BTreeMap<u32, u64>,
     turned_back: [u64; 3],
     extended: u64,
+    /// Opened with the live functions, refused too.
+    flights: u64,
+    /// Calls of the flights, those turned back, and looks at report and status.
+    flown: [u64; 3],
 }
 
 impl Counts {
@@ -60,6 +65,16 @@ impl Counts {
             *sum += u64::from(count);
         }
         self.extended += u64::from(answer.extended);
+    }
+
+    /// Adds a flight with the live functions that was compared.
+    pub fn add_flight(&mut self, flight: &Flight) {
+        self.flights += 1;
+        let back = flight.words.iter().filter(|word| turned_back(**word));
+        let counts = [flight.words.len(), back.count(), flight.looks.len()];
+        for (sum, count) in self.flown.iter_mut().zip(counts) {
+            *sum += count as u64;
+        }
     }
 
     pub fn lists(&self) -> u64 {
@@ -114,10 +129,17 @@ impl Counts {
             self.integrated()
         );
         println!("{} lists, {} calls", self.lists, self.calls);
+        let [calls, back, looks] = self.flown;
+        println!(
+            "live: {} lists flown, {calls} calls compared, {back} of them turned back with the probe as it \
+             was, {looks} reports and statuses",
+            self.flights
+        );
     }
 }
 
-fn pairs<T: std::fmt::Display>(counts: &BTreeMap<T, u64>) -> String {
+/// Counts by what is counted, on one line.
+pub fn pairs<T: std::fmt::Display>(counts: &BTreeMap<T, u64>) -> String {
     let pairs: Vec<String> = counts
         .iter()
         .map(|(key, count)| format!("{key}: {count}"))

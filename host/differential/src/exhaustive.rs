@@ -96,6 +96,7 @@ pub fn inputs() -> impl Iterator<Item = Input> {
                     config: config.bytes(),
                     calls: call_bytes(&calls),
                     output_len: 36 + 4 * calls.len(),
+                    memory: number as u64,
                 }
             })
         })
@@ -126,5 +127,6 @@ pub fn last_tick() -> Input {
         config: CONFIGS[0].bytes(),
         calls: call_bytes(&calls),
         output_len: 36 + 4 * calls.len(),
+        memory: 0,
     }
 }

@@ -1,11 +1,13 @@
-//! Compares a subject's byte run and plain units with the reference's, on many lists of calls and
-//! on reports of any bits; and the reference with itself before request four of 02.
+//! Compares a subject's byte run, plain units and live functions with the reference's, on many lists
+//! of calls and on reports of any bits; and the reference with itself before request four of 02.
 
 mod changed;
 mod compare;
 mod counts;
 mod exhaustive;
 mod lag;
+mod live;
+mod memory;
 mod progress;
 mod show;
 mod shrink;
@@ -28,7 +30,8 @@ usage: differential [lists] [--seed S] [--count N] [--from N] [--family NAME]
        differential last-tick
        differential units [--seed S] [--count N] [--from N]
        differential changed [--seed S] [--count N] [--from N] [--family NAME]
-lists       N lists of seed S, from list number --from on; of one family alone where it is named
+lists       N lists of seed S, from list number --from on; of one family alone where it is named; then
+            as many live probes of any bytes
 exhaustive  every list of up to five calls over a small alphabet
 last-tick   one list of 16,777,219 calls
 units       the plain units of N reports of any bits, from report number --from on
@@ -142,6 +145,7 @@ fn run(options: &Options) -> bool {
                 subject.name
             );
             compare_all(subject, count, inputs(options))
+                && memory::compare_all(subject, seed, from..from + count)
         }
         What::Exhaustive => {
             println!(
@@ -191,18 +195,7 @@ fn inputs(options: &Options) -> impl Iterator<Item = (&'static str, Input)> {
         family,
         ..
     } = *options;
-    (from..from + count).map(move |number| {
-        let list = match family {
-            None => lists::list(seed, number),
-            Some(family) => lists::of_family(family, seed, number),
-        };
-        let input = Input {
-            config: list.config,
-            calls: list.calls,
-            output_len: list.output_len,
-        };
-        (list.family, input)
-    })
+    (from..from + count).map(move |number| Input::numbered(family, seed, number))
 }
 
 fn compare_all(
@@ -213,12 +206,15 @@ fn compare_all(
     let mut progress = Progress::default();
     let mut counts = Counts::default();
     for (number, (family, input)) in inputs.enumerate() {
-        let (answer, difference) = compared(subject, &input);
-        counts.add(family, input.calls.len() / 12, &answer);
-        if let Some(difference) = difference {
+        let both = compared(subject, &input);
+        counts.add(family, input.calls.len() / 12, &both.answer);
+        if both.differ() {
             println!("\nthe answers to list {number} of this run differ; family: {family}");
-            show::smallest(subject, input, difference);
+            show::smallest(subject, input, both);
             return false;
+        }
+        if let Some(flight) = &both.found.flight {
+            counts.add_flight(flight);
         }
         progress.show(|| {
             let (lists, integrated) = (counts.lists(), counts.integrated());

@@ -1,6 +1,7 @@
 //! Prints a difference.
 
-use crate::compare::{Difference, Input, Returned, compared};
+use crate::compare::{Compared, Input, Returned, compared};
+use crate::live::{Flight, Look, Part};
 use crate::shrink::shrunk;
 use crate::subject::Subject;
 
@@ -8,13 +9,13 @@ use crate::subject::Subject;
 const LONGEST: usize = 1 << 24;
 
 /// The smallest input found that differs too. The last tick's list is left as it is.
-pub fn smallest(subject: Subject, input: Input, difference: Difference) {
+pub fn smallest(subject: Subject, input: Input, both: Compared) {
     if input.calls.len() > LONGEST {
-        answers(subject, &difference);
+        answers(subject, &both);
         return;
     }
     let input = shrunk(subject, input);
-    let difference = compared(subject, &input).1.unwrap_or(difference);
+    let both = compared(subject, &input);
     println!(
         "the smallest input found has {} calls:",
         input.calls.len() / 12
@@ -24,18 +25,76 @@ pub fn smallest(subject: Subject, input: Input, difference: Difference) {
         println!("call          {}", hex(call));
     }
     println!("output length {}", input.output_len);
-    answers(subject, &difference);
+    println!("memory's seed {}", input.memory);
+    answers(subject, &both);
 }
 
-/// The runs where they differ, else their plain units.
-fn answers(subject: Subject, difference: &Difference) {
-    let Difference { expected, found } = difference;
+/// The runs where they differ, else their plain units, else the flights.
+fn answers(subject: Subject, both: &Compared) {
+    let Compared {
+        expected, found, ..
+    } = both;
     if expected.run != found.run {
         returned(subject, &expected.run, &found.run);
-    } else if let (Some(units), Some(found_units)) = (&expected.units, &found.units) {
+    } else if let (Some(units), Some(found_units)) = (&expected.units, &found.units)
+        && units != found_units
+    {
         println!("the plain units of this report differ:");
         println!("report        {}", hex(&expected.run.output[..36]));
         returned(subject, units, found_units);
+    } else if let (Some(flight), Some(found_flight)) = (&expected.flight, &found.flight) {
+        println!("the live functions answer otherwise:");
+        flights(flight, found_flight);
+    }
+}
+
+/// The first part in which two flights differ.
+fn flights(expected: &Flight, found: &Flight) {
+    match expected.differs_in(found) {
+        None => {}
+        Some(Part::Opened) => println!(
+            "open with options and without them: reference {:?}, subject {:?}",
+            expected.opened, found.opened
+        ),
+        Some(Part::Words) => {
+            let [reference, subject] = [&expected.words, &found.words];
+            first(reference, subject, "call", |word| format!("{word:08X}"));
+        }
+        Some(Part::Looks) => first(&expected.looks, &found.looks, "look", |look| {
+            let Look {
+                calls,
+                report,
+                status,
+            } = look;
+            let status = status.map(u32::to_be_bytes).concat();
+            format!(
+                "after {calls} calls, report {}, status {}",
+                hex(report),
+                hex(&status)
+            )
+        }),
+        Some(Part::Window) => {
+            let names = ["rate", "moment", "offset", "mark"];
+            for (name, parts) in names.iter().zip(expected.window.iter().zip(&found.window)) {
+                first(parts.0, parts.1, name, |word| format!("{word:08X}"));
+            }
+        }
+        Some(Part::Written) => {
+            for written in found.written.iter().take(40) {
+                println!("bytes were written {written}");
+            }
+        }
+    }
+}
+
+/// The first place where two lists differ.
+fn first<T: PartialEq>(expected: &[T], found: &[T], what: &str, text: impl Fn(&T) -> String) {
+    let all = expected.len().max(found.len());
+    if let Some(place) = (0..all).find(|place| expected.get(*place) != found.get(*place)) {
+        let text = |one: Option<&T>| one.map_or("none".to_string(), &text);
+        println!("{what} {place}:");
+        println!("reference     {}", text(expected.get(place)));
+        println!("subject       {}", text(found.get(place)));
     }
 }
 

@@ -2,7 +2,8 @@
 
 use std::time::{Duration, Instant};
 
-use crate::compare::{Difference, Input, compared};
+use crate::compare::{Input, compared};
+use crate::live::Part;
 use crate::subject::Subject;
 
 const CALL: usize = 12;
@@ -32,16 +33,21 @@ pub fn shrunk(subject: Subject, input: Input) -> Input {
     }
 }
 
-/// The two return values of a difference, and whether the runs differ or their plain units alone.
-type Kind = (u32, u32, bool);
+/// The two return values of a difference, whether the runs differ, and the part of the flights that
+/// does. Where neither is so the plain units differ alone.
+type Kind = (u32, u32, bool, Option<Part>);
 
 fn kind(subject: Subject, input: &Input) -> Option<Kind> {
-    let Difference { expected, found } = compared(subject, input).1?;
-    Some((
-        expected.run.result,
-        found.run.result,
-        expected.run != found.run,
-    ))
+    let compared = compared(subject, input);
+    compared.differ().then(|| {
+        let (expected, found) = (&compared.expected.run, &compared.found.run);
+        (
+            expected.result,
+            found.result,
+            expected != found,
+            compared.flights_differ_in(),
+        )
+    })
 }
 
 struct Shrinker {

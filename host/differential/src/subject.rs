@@ -1,19 +1,21 @@
 //! What is held against the reference.
 
-use library::{ByteRun, PlainUnits};
+use library::{ByteRun, Live, PlainUnits};
 
-/// A program with 01's byte run and 02's plain units.
+/// A program with 01's byte run, 02's plain units, and the live functions.
 #[derive(Clone, Copy)]
 pub struct Subject {
     pub name: &'static str,
     pub byte_run: ByteRun,
     pub plain_units: PlainUnits,
+    pub live: Live,
 }
 
 pub const SECOND: Subject = Subject {
     name: "the second program",
     byte_run: second::byte_run,
     plain_units: second::plain_units,
+    live: second::LIVE,
 };
 
 /// The library, where one was linked.
@@ -22,6 +24,7 @@ pub fn library() -> Option<Subject> {
         name: "the static library",
         byte_run: library::BYTE_RUN?,
         plain_units: library::PLAIN_UNITS?,
+        live: library::LIVE?,
     })
 }
 

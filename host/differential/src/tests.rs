@@ -1,3 +1,5 @@
+mod live;
+
 use reference::access::{self, Samples, before_four};
 use reference::byte_run::{byte_run, probe_run};
 use reference::checked::Answer;
@@ -10,22 +12,12 @@ use crate::subject::{SECOND, Subject};
 use crate::units;
 
 fn differs(subject: Subject, input: &Input) -> bool {
-    compared(subject, input).1.is_some()
+    compared(subject, input).differ()
 }
 
 /// The inputs of lists 0 to `count` of a seed.
 fn inputs(seed: u64, count: u64) -> impl Iterator<Item = (&'static str, Input)> {
-    (0..count).map(move |number| {
-        let list = lists::list(seed, number);
-        (
-            list.family,
-            Input {
-                config: list.config,
-                calls: list.calls,
-                output_len: list.output_len,
-            },
-        )
-    })
+    (0..count).map(move |number| Input::numbered(None, seed, number))
 }
 
 #[test]
@@ -120,9 +112,13 @@ fn half_of_an_abort(config: &[u8], calls: &[u8], output: &mut [u8]) -> u32 {
     })
 }
 
-/// A faulty subject is found among the lists, and its input made small.
+/// The input that shows a faulty byte run, made small.
 fn found(byte_run: fn(&[u8], &[u8], &mut [u8]) -> u32) -> Input {
-    let subject = Subject { byte_run, ..SECOND };
+    found_by(Subject { byte_run, ..SECOND })
+}
+
+/// A faulty subject is found among the lists, and its input made small.
+fn found_by(subject: Subject) -> Input {
     let (_, input) = inputs(21, 3_000)
         .find(|(_, input)| differs(subject, input))
         .expect("found");
@@ -161,14 +157,7 @@ fn a_wrong_half_tick_is_found() {
 fn of_family(name: &str, seed: u64, count: u64) -> impl Iterator<Item = Input> + use<> {
     let family = lists::FAMILIES.iter().find(|family| family.name == name);
     let family = family.expect("the family");
-    (0..count).map(move |number| {
-        let list = lists::of_family(family, seed, number);
-        Input {
-            config: list.config,
-            calls: list.calls,
-            output_len: list.output_len,
-        }
-    })
+    (0..count).map(move |number| Input::numbered(Some(family), seed, number).1)
 }
 
 #[test]
@@ -329,10 +318,11 @@ fn a_refused_run_is_compared_too() {
         config: vec![0; 24],
         calls: vec![],
         output_len: 36,
+        memory: 0,
     };
-    let (answer, difference) = compared(subject, &input);
-    assert_eq!(answer.result, 1);
-    assert_eq!(difference.expect("a difference").found.run.result, 0);
+    let both = compared(subject, &input);
+    assert_eq!(both.answer.result, 1);
+    assert_eq!(both.found.run.result, 0);
 }
 
 #[test]
@@ -465,8 +455,7 @@ fn wrong_plain_units_of_a_list_are_found() {
     let (_, input) = inputs(21, 3_000)
         .find(|(_, input)| differs(subject, input))
         .expect("found");
-    let difference = compared(subject, &shrunk(subject, input)).1;
-    let difference = difference.expect("a difference");
-    assert_eq!(difference.expected.run, difference.found.run);
-    assert_ne!(difference.expected.units, difference.found.units);
+    let both = compared(subject, &shrunk(subject, input));
+    assert_eq!(both.expected.run, both.found.run);
+    assert_ne!(both.expected.units, both.found.units);
 }

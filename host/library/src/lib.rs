@@ -1,6 +1,10 @@
 //! The proved static library, where the environment variable IDENTIFY_LIB named it during the
 //! build.
 
+mod live;
+
+pub use live::{LIVE, Live, LiveProbe, LiveStatus, WINDOW};
+
 /// A byte run: configuration, calls, output; it answers 0 or a rule's number.
 pub type ByteRun = fn(&[u8], &[u8], &mut [u8]) -> u32;
 

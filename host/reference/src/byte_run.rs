@@ -78,7 +78,7 @@ pub fn calls_of(bytes: &[u8]) -> impl Iterator<Item = Call> {
 }
 
 /// Word `place` of `bytes`.
-pub(crate) fn word_at(bytes: &[u8], place: usize) -> u32 {
+pub fn word_at(bytes: &[u8], place: usize) -> u32 {
     let word = bytes[4 * place..4 * place + 4]
         .try_into()
         .expect("four bytes");

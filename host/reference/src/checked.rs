@@ -1,6 +1,6 @@
 //! The reference's answer to a list, held against the account of the list.
 
-use crate::access::{self, Class, IdentifyStatus};
+use crate::access::{self, Class, IdentifyStatus, Samples};
 use crate::account::Account;
 use crate::byte_run::{self, calls_of, config_of};
 use crate::plain_units::{PlainUnits, of_model};
@@ -84,6 +84,8 @@ pub struct Answer {
     pub turned_back: [u32; 3],
     /// Whether the extension was used and the probe went on.
     pub extended: bool,
+    /// The window that the list leaves; none where it is refused.
+    pub window: Option<Samples>,
 }
 
 /// Runs the reference over a list, and panics where the account says otherwise or an integrated
@@ -102,6 +104,7 @@ pub fn checked_run(config: &[u8], calls: &[u8], output: &mut [u8]) -> Answer {
                 gain_fits: 0,
                 turned_back: [0; 3],
                 extended: false,
+                window: None,
             }
         }
         Ok(probe) => {
@@ -133,6 +136,7 @@ pub fn checked_run(config: &[u8], calls: &[u8], output: &mut [u8]) -> Answer {
                         .count() as u32
                 }),
                 extended: account.extended,
+                window: Some(access::samples(probe.inner())),
             }
         }
     }

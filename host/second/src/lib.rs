@@ -6,7 +6,8 @@ mod fits;
 mod probe;
 mod units;
 
-use probe::{Extension, Probe};
+use probe::Probe;
+pub use probe::live::LIVE;
 pub use units::plain_units;
 
 /// Document 01's byte run.
@@ -15,20 +16,7 @@ pub fn byte_run(config: &[u8], calls: &[u8], output: &mut [u8]) -> u32 {
     if config.len() != 24 || calls.len() != 12 * count || output.len() < 36 + 4 * count {
         return 9;
     }
-    let extension = if word(config, 3) == 0 {
-        None
-    } else {
-        Some(Extension {
-            amplitude: number(config, 4),
-            duration: number(config, 5),
-        })
-    };
-    let made = Probe::new(
-        number(config, 0),
-        number(config, 1),
-        number(config, 2),
-        extension,
-    );
+    let made = Probe::configured(&std::array::from_fn(|n| word(config, n)));
     let mut probe = match made {
         Ok(probe) => probe,
         Err(number) => return number,

@@ -1,10 +1,12 @@
 //! "A call turned back", "One tick, from dt to offset", "The report".
 
+pub mod live;
+
 use crate::bits;
 use crate::fits::{Class, Model, Sample, classify, integrated, rows};
 
 #[derive(Clone, Copy)]
-pub struct Extension {
+struct Extension {
     pub amplitude: f32,
     pub duration: f32,
 }
@@ -47,7 +49,20 @@ fn finite(v: f32) -> bool {
 }
 
 impl Probe {
-    pub fn new(
+    /// The probe of a configuration's six words.
+    pub fn configured(config: &[u32; 6]) -> Result<Probe, u32> {
+        let [amplitude, duration, washout_tc, flag, rest @ ..] = *config;
+        let [extension_amplitude, extension_duration] = rest.map(f32::from_bits);
+        let extension = (flag != 0).then_some(Extension {
+            amplitude: extension_amplitude,
+            duration: extension_duration,
+        });
+        let [amplitude, duration, washout_tc] =
+            [amplitude, duration, washout_tc].map(f32::from_bits);
+        Probe::new(amplitude, duration, washout_tc, extension)
+    }
+
+    fn new(
         amplitude: f32,
         duration: f32,
         washout_tc: f32,
@@ -88,12 +103,14 @@ impl Probe {
         })
     }
 
-    pub fn step(&mut self, dt: f32, rate: f32, moment: f32) -> Result<f32, u32> {
+    /// The elapsed time after a call of this dt, none after the end; or the number that turns it
+    /// back.
+    fn elapsed_after(&self, dt: f32) -> Result<Option<f32>, u32> {
         if !(dt > 0.0 && finite(dt)) {
             return Err(6);
         }
         let Status::Running = self.status else {
-            return Ok(0.0);
+            return Ok(None);
         };
         let elapsed = self.elapsed + dt;
         if elapsed > 4096.0 {
@@ -102,6 +119,13 @@ impl Probe {
         if self.ticks == 1 << 24 {
             return Err(8);
         }
+        Ok(Some(elapsed))
+    }
+
+    pub fn step(&mut self, dt: f32, rate: f32, moment: f32) -> Result<f32, u32> {
+        let Some(elapsed) = self.elapsed_after(dt)? else {
+            return Ok(0.0);
+        };
         self.elapsed = elapsed;
         self.ticks += 1;
         let offset = self.sweep(dt);
@@ -162,16 +186,21 @@ impl Probe {
         };
     }
 
-    pub fn report(&self) -> [u8; 36] {
-        let stored = self.window.len() as u32;
-        let held = self.window.iter().filter(|sample| sample.held).count() as u32;
-        let ended_rows = rows(&self.window).len() as u32;
-        let (kind, half_ticks, floats) = match &self.status {
+    /// The kind, the delay in half ticks, and the six floats of the report.
+    fn model(&self) -> (u32, u32, [f32; 6]) {
+        match &self.status {
             Status::Running => (0, 0, [0.0, 0.0, 0.0, 0.0, 0.0, self.elapsed]),
             Status::Done(model) => (1, model.half_ticks, model.floats),
             Status::Unexcited => (2, 0, [0.0; 6]),
             Status::Saturated => (3, 0, [0.0; 6]),
-        };
+        }
+    }
+
+    pub fn report(&self) -> [u8; 36] {
+        let stored = self.window.len() as u32;
+        let held = self.window.iter().filter(|sample| sample.held).count() as u32;
+        let ended_rows = rows(&self.window).len() as u32;
+        let (kind, half_ticks, floats) = self.model();
         let (warm, rows) = match kind {
             0 => (0, 0),
             _ => (stored - held - ended_rows, ended_rows),

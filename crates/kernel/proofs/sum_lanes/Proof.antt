@@ -1,169 +1,81 @@
--- `kernel::sum_lanes` meets its contract. The outer loop's invariant: every lane has the first i ticks in it; the inner loop's: the lanes below h have tick i too
--- (`Lanes`, proofs/Lanes.antt). The measures are the ticks and the lanes left.
-use Prim.Native.Nat.{_≤_, _-_, _+_, _*_}
-use mathlib.Core.Path.{_≡_, refl}
+-- `kernel::sum_lanes` meets its contract. The loop's invariant: every lane has gone on by the first i ticks. The measure is the ticks left.
+use Prim.Native.Nat.{ℕ, _≤_, _<_, _-_, _+_, _*_}
+use mathlib.Core.Path.{_≡_, refl, _∙_}
 use native.Mathlib.Omega.{arith}
+use native.Mathlib.Numerals.{add-one}
+use borrow.Author.Needs.{needs}
 use Rattle.float.specs.Series.{at}
 use Rattle.lanes.specs.Lanes.{laneCount}
-use Rattle.kernel.proofs.Lanes.{Lanes, begin, on, turn}
+use Rattle.kernel.specs.Kernel.{lane, sumsOn}
 use Rattle.kernel.proofs.sum_lanes.Statement.{statement}
 use Rattle.kernel.proofs.sum_lanes.Tie as tie
 
-abbrev Inv-loop2 : tie.InvT-loop2
-Inv-loop2 xs cs ts carry first n m₀ mm₀ mc₀ mt₀ i place c t h₀ m mm mc mt h = (h ≤ laneCount) × Lanes carry (λ j k. at xs (first + k * 6 + j)) (at cs) (at ts) i h m mm mc mt
-
-abbrev μ-loop2 : tie.MeasureT-loop2
-μ-loop2 xs cs ts carry first n m₀ mm₀ mc₀ mt₀ i place c t h₀ m mm mc mt h = laneCount - h
-
 abbrev Inv-loop : tie.InvT-loop
-Inv-loop xs cs ts carry first n m₀ mm₀ mc₀ mt₀ i₀ m mm mc mt i = (i ≤ n) × Lanes carry (λ j k. at xs (first + k * 6 + j)) (at cs) (at ts) i 0 m mm mc mt
+Inv-loop xs cs ts carry first from n on₀ i₀ on i = (i ≤ n) × ((h : ℕ) → h < laneCount → lane on h ≡ sumsOn carry (λ k. at xs ((first + k) * laneCount + h)) (λ k. at cs (from + k)) (λ k. at ts (from + k)) (lane on₀ h) i)
 
 abbrev μ-loop : tie.MeasureT-loop
-μ-loop xs cs ts carry first n m₀ mm₀ mc₀ mt₀ i₀ m mm mc mt i = n - i
+μ-loop xs cs ts carry first from n on₀ i₀ on i = n - i
 
-loop-holds : tie.Need-loop-holds Inv-loop2 μ-loop2 Inv-loop μ-loop
-loop-holds c = (omega arith, begin _ _ _ _)
+loop-holds : tie.Need-loop-holds Inv-loop μ-loop
+unfolding sumsOn
+loop-holds c = (omega arith, λ h p. refl)
 
-mul-place : tie.Need-mul-place Inv-loop2 μ-loop2 Inv-loop μ-loop
-mul-place c = omega arith
-
-add-place : tie.Need-add-place Inv-loop2 μ-loop2 Inv-loop μ-loop
+add-place : tie.Need-add-place Inv-loop μ-loop
 add-place c = omega arith
 
-mul-c : tie.Need-mul-c Inv-loop2 μ-loop2 Inv-loop μ-loop
-mul-c c = omega arith
+mul-place : tie.Need-mul-place Inv-loop μ-loop
+mul-place c = omega arith
 
-element-copy-out-c : tie.Need-element-copy-out-c Inv-loop2 μ-loop2 Inv-loop μ-loop
-element-copy-out-c c = omega arith
+add-add-tick : tie.Need-add-add-tick Inv-loop μ-loop
+add-add-tick c = omega arith
 
-mul-t : tie.Need-mul-t Inv-loop2 μ-loop2 Inv-loop μ-loop
-mul-t c = omega arith
+mul-add-tick : tie.Need-mul-add-tick Inv-loop μ-loop
+mul-add-tick c = omega arith
 
-element-copy-out-t : tie.Need-element-copy-out-t Inv-loop2 μ-loop2 Inv-loop μ-loop
-element-copy-out-t c = omega arith
+element-copy-out-add-tick : tie.Need-element-copy-out-add-tick Inv-loop μ-loop
+element-copy-out-add-tick c = omega arith
 
-loop2-holds : tie.Need-loop2-holds Inv-loop2 μ-loop2 Inv-loop μ-loop
-loop2-holds c = (omega arith, c .before .before .before .loop .inv .1)
+add-add-tick-2 : tie.Need-add-add-tick-2 Inv-loop μ-loop
+add-add-tick-2 c = omega arith
 
-mul-next : tie.Need-mul-next Inv-loop2 μ-loop2 Inv-loop μ-loop
-mul-next c = omega arith
+mul-add-tick-2 : tie.Need-mul-add-tick-2 Inv-loop μ-loop
+mul-add-tick-2 c = omega arith
 
-array-read-next : tie.Need-array-read-next Inv-loop2 μ-loop2 Inv-loop μ-loop
-array-read-next c = omega arith
+element-copy-out-add-tick-2 : tie.Need-element-copy-out-add-tick-2 Inv-loop μ-loop
+element-copy-out-add-tick-2 c = omega arith
 
-add-next : tie.Need-add-next Inv-loop2 μ-loop2 Inv-loop μ-loop
-add-next c = omega arith
+add-tick-requires : tie.Need-add-tick-requires Inv-loop μ-loop
+add-tick-requires c κs = search needs
 
-mul-next-2 : tie.Need-mul-next-2 Inv-loop2 μ-loop2 Inv-loop μ-loop
-mul-next-2 c = omega arith
-
-element-copy-out-next : tie.Need-element-copy-out-next Inv-loop2 μ-loop2 Inv-loop μ-loop
-element-copy-out-next c = omega arith
-
-mul-m : tie.Need-mul-m Inv-loop2 μ-loop2 Inv-loop μ-loop
-mul-m c = omega arith
-
-array-write-m : tie.Need-array-write-m Inv-loop2 μ-loop2 Inv-loop μ-loop
-array-write-m c = omega arith
-
-mul-mm : tie.Need-mul-mm Inv-loop2 μ-loop2 Inv-loop μ-loop
-mul-mm c = omega arith
-
-array-read-mm : tie.Need-array-read-mm Inv-loop2 μ-loop2 Inv-loop μ-loop
-array-read-mm c = omega arith
-
-mul-mm-2 : tie.Need-mul-mm-2 Inv-loop2 μ-loop2 Inv-loop μ-loop
-mul-mm-2 c = omega arith
-
-array-write-mm : tie.Need-array-write-mm Inv-loop2 μ-loop2 Inv-loop μ-loop
-array-write-mm c = omega arith
-
-mul-mc : tie.Need-mul-mc Inv-loop2 μ-loop2 Inv-loop μ-loop
-mul-mc c = omega arith
-
-array-read-mc : tie.Need-array-read-mc Inv-loop2 μ-loop2 Inv-loop μ-loop
-array-read-mc c = omega arith
-
-mul-mc-2 : tie.Need-mul-mc-2 Inv-loop2 μ-loop2 Inv-loop μ-loop
-mul-mc-2 c = omega arith
-
-array-write-mc : tie.Need-array-write-mc Inv-loop2 μ-loop2 Inv-loop μ-loop
-array-write-mc c = omega arith
-
-mul-mt : tie.Need-mul-mt Inv-loop2 μ-loop2 Inv-loop μ-loop
-mul-mt c = omega arith
-
-array-read-mt : tie.Need-array-read-mt Inv-loop2 μ-loop2 Inv-loop μ-loop
-array-read-mt c = omega arith
-
-mul-mt-2 : tie.Need-mul-mt-2 Inv-loop2 μ-loop2 Inv-loop μ-loop
-mul-mt-2 c = omega arith
-
-array-write-mt : tie.Need-array-write-mt Inv-loop2 μ-loop2 Inv-loop μ-loop
-array-write-mt c = omega arith
-
-add-h : tie.Need-add-h Inv-loop2 μ-loop2 Inv-loop μ-loop
-add-h c = omega arith
-
-loop2-less : tie.Need-loop2-less Inv-loop2 μ-loop2 Inv-loop μ-loop
-loop2-less c = omega arith
-
-loop2-again : tie.Need-loop2-again Inv-loop2 μ-loop2 Inv-loop μ-loop
-loop2-again c =
-    let k = c .before .before .loop2 in (omega arith, turn _ _ _ _ _ _ _ _ _ _ _ (k .inv .1) (c .before .loop2-test .taken) refl)
-
-add-i : tie.Need-add-i Inv-loop2 μ-loop2 Inv-loop μ-loop
+add-i : tie.Need-add-i Inv-loop μ-loop
 add-i c = omega arith
 
-loop-less : tie.Need-loop-less Inv-loop2 μ-loop2 Inv-loop μ-loop
+loop-less : tie.Need-loop-less Inv-loop μ-loop
 loop-less c = omega arith
 
-loop-again : tie.Need-loop-again Inv-loop2 μ-loop2 Inv-loop μ-loop
-loop-again c =
-    let e : c .before .loop2 .h ≡ laneCount = omega arith in (omega arith, on _ _ _ _ _ _ _ _ _ (rw e at (c .before .loop2 .inv .1)))
+loop-again : tie.Need-loop-again Inv-loop μ-loop
+unfolding sumsOn
+loop-again c = let k = c .before .before .before .before .loop in (omega arith, λ h p. c .add-tick .ensures h p ∙ rw (add-one, ← (k .inv .1 h p)) refl)
 
-returns : tie.Need-returns Inv-loop2 μ-loop2 Inv-loop μ-loop
-returns c = λ h p.
-    let e : c .before .loop .i ≡ c .before .before .args .n = omega arith in rw (← e) (c .before .loop .inv .1 .left h (omega arith) p .sums)
+returns : tie.Need-returns Inv-loop μ-loop
+returns c = let k = c .before .loop in let e : k .i ≡ c .before .before .args .n = omega arith in rw e at (k .inv .1)
 
 pub sum-lanes-spec : {M : Type 1} → statement M
 sum-lanes-spec =
     tie.close
     (tie.spec
-    Inv-loop2
-    μ-loop2
     Inv-loop
     μ-loop
     loop-holds
-    mul-place
     add-place
-    mul-c
-    element-copy-out-c
-    mul-t
-    element-copy-out-t
-    loop2-holds
-    mul-next
-    array-read-next
-    add-next
-    mul-next-2
-    element-copy-out-next
-    mul-m
-    array-write-m
-    mul-mm
-    array-read-mm
-    mul-mm-2
-    array-write-mm
-    mul-mc
-    array-read-mc
-    mul-mc-2
-    array-write-mc
-    mul-mt
-    array-read-mt
-    mul-mt-2
-    array-write-mt
-    add-h
-    loop2-less
-    loop2-again
+    mul-place
+    add-add-tick
+    mul-add-tick
+    element-copy-out-add-tick
+    add-add-tick-2
+    mul-add-tick-2
+    element-copy-out-add-tick-2
+    add-tick-requires
     add-i
     loop-less
     loop-again

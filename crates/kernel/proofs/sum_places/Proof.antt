@@ -1,115 +1,121 @@
--- `kernel::sum_places` meets its contract. The outer loop's invariant: the places of the first d whole ticks have their sums (`Places`, proofs/Places.antt); the inner loop's: h lanes
--- of whole tick d + 1 too. The measures are the whole ticks and the lanes left.
-use Prim.Native.Nat.{_≤_, _<_, _-_, _+_, _*_}
-use mathlib.Core.Path.{_≡_}
-use native.Mathlib.Nat.{add-zero}
+-- `kernel::sum_places` meets its contract. The outer loop's invariant: the lags stand, and the sums of every place are, as after the moments before block b; the inner loop's:
+-- the whole ticks below d have block b in them too (`Places`, proofs/Blocks.antt). The measures are the blocks and the whole ticks left.
+use Prim.Native.Nat.{ℕ, _≤_, _-_, _+_, _*_, min}
+use mathlib.Core.Path.{_≡_, ap, _∙_}
+use mathlib.Core.List.{List}
 use native.Mathlib.Omega.{arith}
+use lib.ListN.{length, length-replicate}
+use lib.Ieee.{Float}
+use borrow.Author.Needs.{needs}
+use Rattle.float.specs.Values.{zero64}
 use Rattle.float.specs.Series.{at}
-use Rattle.gain.specs.Gain.{through}
-use Rattle.lanes.specs.Lanes.{laneCount}
-use Rattle.kernel.specs.Kernel.{placeCount, placeSeries}
-use Rattle.kernel.proofs.Places.{Places, lane-is, none, one-more, all-summed}
+use Rattle.lanes.specs.Lanes.{blockTicks, lastBlock, blockMoments, Block}
+use Rattle.float.proofs.Fill.{length-fill}
+use Rattle.lanes.proofs.Blocks.{Stand, stand-begin, stand-on, lane-at}
+use Rattle.kernel.specs.Kernel.{wholeTicks}
+use Rattle.kernel.proofs.Blocks.{Places, begin, over, turn, all}
 use Rattle.kernel.proofs.sum_places.Statement.{statement}
 use Rattle.kernel.proofs.sum_places.Tie as tie
 
 abbrev Inv-loop2 : tie.InvT-loop2
-Inv-loop2 xs cs ts carry n mm₀ mc₀ mt₀ d sums h₀ mm mc mt h = (h ≤ laneCount) × Places (λ p. through carry (placeSeries xs p)) (at cs) (at ts) n (d * laneCount + h) mm mc mt
+Inv-loop2 moments poles cs ts carry n sums₀ xs b tick next d₀ b-end sums d = (d ≤ wholeTicks) × Places poles cs ts carry (at moments) n tick d sums
 
 abbrev μ-loop2 : tie.MeasureT-loop2
-μ-loop2 xs cs ts carry n mm₀ mc₀ mt₀ d sums h₀ mm mc mt h = laneCount - h
+μ-loop2 moments poles cs ts carry n sums₀ xs b tick next d₀ b-end sums d = wholeTicks - d
 
 abbrev Inv-loop : tie.InvT-loop
-Inv-loop xs cs ts carry n mm₀ mc₀ mt₀ d₀ mm mc mt d = (d ≤ 10) × Places (λ p. through carry (placeSeries xs p)) (at cs) (at ts) n (d * laneCount) mm mc mt
+Inv-loop moments poles cs ts carry n sums₀ xs₀ lagged₀ b₀ b-end sums xs lagged b = (b ≤ b-end) × (length xs ≡ 768) × Stand poles (at moments) (min (b * blockTicks) (n + 11)) lagged × Places poles cs ts carry (at moments) n (b * blockTicks) 0 sums
 
 abbrev μ-loop : tie.MeasureT-loop
-μ-loop xs cs ts carry n mm₀ mc₀ mt₀ d₀ mm mc mt d = 10 - d
+μ-loop moments poles cs ts carry n sums₀ xs₀ lagged₀ b₀ b-end sums xs lagged b = b-end - b
+
+add-b-end : tie.Need-add-b-end Inv-loop2 μ-loop2 Inv-loop μ-loop
+add-b-end c = omega arith
 
 loop-holds : tie.Need-loop-holds Inv-loop2 μ-loop2 Inv-loop μ-loop
-loop-holds c = (omega arith, none _ _ _ _)
+loop-holds c =
+    let e : min 0 (c .args .n + 11) ≡ 0 = omega arith in
+    (omega arith, length-replicate 768 zero64, rw e (stand-begin (c .args .poles) (at (c .args .moments .now))), begin _ _ _ _ _ _)
 
-sub-sum-lanes : tie.Need-sub-sum-lanes Inv-loop2 μ-loop2 Inv-loop μ-loop
-sub-sum-lanes c = omega arith
+mul-tick : tie.Need-mul-tick Inv-loop2 μ-loop2 Inv-loop μ-loop
+mul-tick c = omega arith
 
-mul-sum-lanes : tie.Need-mul-sum-lanes Inv-loop2 μ-loop2 Inv-loop μ-loop
-mul-sum-lanes c = omega arith
+add-lag-block : tie.Need-add-lag-block Inv-loop2 μ-loop2 Inv-loop μ-loop
+add-lag-block c = omega arith
 
-sum-lanes-requires : tie.Need-sum-lanes-requires Inv-loop2 μ-loop2 Inv-loop μ-loop
-sum-lanes-requires c κs = omega arith
+sub-lag-block : tie.Need-sub-lag-block Inv-loop2 μ-loop2 Inv-loop μ-loop
+sub-lag-block c = omega arith
+
+lag-block-requires : tie.Need-lag-block-requires Inv-loop2 μ-loop2 Inv-loop μ-loop
+lag-block-requires c κs = search needs
 
 loop2-holds : tie.Need-loop2-holds Inv-loop2 μ-loop2 Inv-loop μ-loop
-loop2-holds c = (omega arith, rw add-zero (c .before .before .loop .inv .1))
+loop2-holds c = (omega arith, c .before .before .before .loop .inv .3)
 
-mul-place : tie.Need-mul-place Inv-loop2 μ-loop2 Inv-loop μ-loop
-mul-place c = omega arith
+mul-start : tie.Need-mul-start Inv-loop2 μ-loop2 Inv-loop μ-loop
+mul-start c = omega arith
 
-add-place : tie.Need-add-place Inv-loop2 μ-loop2 Inv-loop μ-loop
-add-place c = omega arith
+array-copy-out-start : tie.Need-array-copy-out-start Inv-loop2 μ-loop2 Inv-loop μ-loop
+array-copy-out-start c = omega arith
 
-mul-mm : tie.Need-mul-mm Inv-loop2 μ-loop2 Inv-loop μ-loop
-mul-mm c = omega arith
+sum-block-requires : tie.Need-sum-block-requires Inv-loop2 μ-loop2 Inv-loop μ-loop
+sum-block-requires c κs = search needs
 
-element-copy-out-mm : tie.Need-element-copy-out-mm Inv-loop2 μ-loop2 Inv-loop μ-loop
-element-copy-out-mm c = omega arith
+mul-sums : tie.Need-mul-sums Inv-loop2 μ-loop2 Inv-loop μ-loop
+mul-sums c = omega arith
 
-mul-mm-2 : tie.Need-mul-mm-2 Inv-loop2 μ-loop2 Inv-loop μ-loop
-mul-mm-2 c = omega arith
+array-set-from-sums : tie.Need-array-set-from-sums Inv-loop2 μ-loop2 Inv-loop μ-loop
+array-set-from-sums c = omega arith
 
-array-write-mm : tie.Need-array-write-mm Inv-loop2 μ-loop2 Inv-loop μ-loop
-array-write-mm c = omega arith
-
-mul-mc : tie.Need-mul-mc Inv-loop2 μ-loop2 Inv-loop μ-loop
-mul-mc c = omega arith
-
-element-copy-out-mc : tie.Need-element-copy-out-mc Inv-loop2 μ-loop2 Inv-loop μ-loop
-element-copy-out-mc c = omega arith
-
-mul-mc-2 : tie.Need-mul-mc-2 Inv-loop2 μ-loop2 Inv-loop μ-loop
-mul-mc-2 c = omega arith
-
-array-write-mc : tie.Need-array-write-mc Inv-loop2 μ-loop2 Inv-loop μ-loop
-array-write-mc c = omega arith
-
-mul-mt : tie.Need-mul-mt Inv-loop2 μ-loop2 Inv-loop μ-loop
-mul-mt c = omega arith
-
-element-copy-out-mt : tie.Need-element-copy-out-mt Inv-loop2 μ-loop2 Inv-loop μ-loop
-element-copy-out-mt c = omega arith
-
-mul-mt-2 : tie.Need-mul-mt-2 Inv-loop2 μ-loop2 Inv-loop μ-loop
-mul-mt-2 c = omega arith
-
-array-write-mt : tie.Need-array-write-mt Inv-loop2 μ-loop2 Inv-loop μ-loop
-array-write-mt c = omega arith
-
-add-h : tie.Need-add-h Inv-loop2 μ-loop2 Inv-loop μ-loop
-add-h c = omega arith
+add-d : tie.Need-add-d Inv-loop2 μ-loop2 Inv-loop μ-loop
+add-d c = omega arith
 
 loop2-less : tie.Need-loop2-less Inv-loop2 μ-loop2 Inv-loop μ-loop
 loop2-less c = omega arith
 
+module _ (f : tie.After-lag-block Inv-loop2 μ-loop2 Inv-loop μ-loop) where
+  abbrev h : tie.At-loop Inv-loop2 μ-loop2 Inv-loop μ-loop
+  h = f .before .before .before
+
+  abbrev u : ℕ → Float
+  u = at (h .before .args .moments .now)
+
+  abbrev woven : List Float
+  woven = f .lag-block .last .1 .1 .1 .1 .1 .0
+
+  -- the block that is woven, and how the lags stood before it
+  block : Block (h .before .args .poles) (h .loop .lagged) (blockMoments u (h .loop .b)) (min (h .before .args .n + 11 - h .loop .b * blockTicks) blockTicks) (h .loop .xs) woven (f .lag-block .result)
+  block = let z : min (h .loop .b) lastBlock ≡ h .loop .b = omega arith in rw z at (f .lag-block .ensures)
+
+  stood : Stand (h .before .args .poles) u (h .loop .b * blockTicks) (h .loop .lagged)
+  stood = let y : min (h .loop .b * blockTicks) (h .before .args .n + 11) ≡ h .loop .b * blockTicks = omega arith in rw y at (h .loop .inv .2)
+
 loop2-again : tie.Need-loop2-again Inv-loop2 μ-loop2 Inv-loop μ-loop
 loop2-again c =
-    let k = c .before .before .before .before in let s = k .before in let l = s .before .before in let a = l .before .args in
-    let h = k .loop2 .h in let d = l .loop .d in
-    let q : h < laneCount = c .before .before .before .loop2-test .taken in
-    let e : d * laneCount + (h + 1) ≡ d * laneCount + h + 1 = omega arith in
-    (omega arith, rw e (one-more _ _ _ _ (d * laneCount + h) _ _ _ _ (k .loop2 .inv .1) (rw (lane-is (a .xs .now) d h q) at (s .sum-lanes .ensures h q))))
+    let p = c .before .before .before .before in let f = p .before in
+    let lanes = lane-at _ _ _ _ _ _ _ _ (stood f) (block f) (rw (h f .loop .inv .1) (omega arith)) in
+    (omega arith, turn _ _ _ _ _ _ _ _ _ _ (woven f) (p .loop2 .inv .1) (omega arith) lanes (c .sum-block .ensures))
 
-add-d : tie.Need-add-d Inv-loop2 μ-loop2 Inv-loop μ-loop
-add-d c = omega arith
+add-b : tie.Need-add-b Inv-loop2 μ-loop2 Inv-loop μ-loop
+add-b c = omega arith
 
 loop-less : tie.Need-loop-less Inv-loop2 μ-loop2 Inv-loop μ-loop
 loop-less c = omega arith
 
 loop-again : tie.Need-loop-again Inv-loop2 μ-loop2 Inv-loop μ-loop
 loop-again c =
-    let k = c .before in let d = k .before .before .before .loop .d in
-    let e : d * laneCount + k .loop2 .h ≡ (d + 1) * laneCount = omega arith in
-    (omega arith, rw e at (k .loop2 .inv .1))
+    let p = c .before in let f = p .before in let b = h f .loop .b in let n = h f .before .args .n in
+    let e : p .loop2 .d ≡ wholeTicks = omega arith in
+    let k : (b + 1) * blockTicks ≡ b * blockTicks + blockTicks = omega arith in
+    let m : b * blockTicks + min (n + 11 - b * blockTicks) blockTicks ≡ min ((b + 1) * blockTicks) (n + 11) = omega arith in (
+      omega arith,
+      ap length (block f .lanes) ∙ length-fill _ _ _ ∙ h f .loop .inv .1,
+      rw m at (stand-on _ _ _ _ _ _ _ _ (stood f) (block f)),
+      rw k (over _ _ _ _ _ _ _ _ (rw e at (p .loop2 .inv .1))),
+    )
 
 returns : tie.Need-returns Inv-loop2 μ-loop2 Inv-loop μ-loop
-returns c =
-    let k = c .before .loop in let e : k .d * laneCount ≡ placeCount = omega arith in all-summed _ _ _ _ _ _ _ (rw e at (k .inv .1))
+returns c = let k = c .before .loop in all _ _ _ _ _ _ _ _ (k .inv .3) (omega arith)
 
 pub sum-places-spec : {M : Type 1} → statement M
 sum-places-spec =
@@ -119,29 +125,22 @@ sum-places-spec =
     μ-loop2
     Inv-loop
     μ-loop
+    add-b-end
     loop-holds
-    sub-sum-lanes
-    mul-sum-lanes
-    sum-lanes-requires
+    mul-tick
+    add-lag-block
+    sub-lag-block
+    lag-block-requires
     loop2-holds
-    mul-place
-    add-place
-    mul-mm
-    element-copy-out-mm
-    mul-mm-2
-    array-write-mm
-    mul-mc
-    element-copy-out-mc
-    mul-mc-2
-    array-write-mc
-    mul-mt
-    element-copy-out-mt
-    mul-mt-2
-    array-write-mt
-    add-h
+    mul-start
+    array-copy-out-start
+    sum-block-requires
+    mul-sums
+    array-set-from-sums
+    add-d
     loop2-less
     loop2-again
-    add-d
+    add-b
     loop-less
     loop-again
     returns)

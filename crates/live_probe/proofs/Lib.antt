@@ -1,0 +1,4 @@
+pub mod Opening
+pub mod Stepping
+pub mod Flying
+pub mod Marks

@@ -1,0 +1,366 @@
+"""A probe in flight, from C: the header's live functions, the README's lines and the example, over the real library."""
+import math
+import os
+import re
+import shutil
+import struct
+import subprocess
+import tempfile
+import unittest
+from pathlib import Path
+
+from flights import demo_columns
+from support import HEADER, M1_CONFIG, ROOT, compiled, identify, live_library, made_flight
+
+from identify import probe, wire
+from identify.records import Config, Ending, Extension
+
+HERE = Path(__file__).resolve().parent
+EXAMPLE = ROOT / "examples/autopilot.c"
+STANDARDS = (("cc", "c99"), ("cc", "c11"), ("g++", "c++11"), ("g++", "c++17"))
+COMPILERS = ("cc", "clang")
+STATUS = struct.Struct(">If3I6fI2f")
+"""The header's identify_state, as live.c writes it."""
+GARBAGE = 6000
+MODES = ("default", "flush-to-zero", "denormals-are-zero", "down", "up", "to-zero")
+
+README_CALLER = r"""
+#include <stdio.h>
+
+int main(void)
+{
+    float dt, rate, moment, delay_s, lag_s, accel_radps2;
+    identify_kind kind = IDENTIFY_RUNNING;
+    if (!probe_start())
+        return 1;
+    while (kind == IDENTIFY_RUNNING && scanf("%f,%f,%f", &dt, &rate, &moment) == 3) {
+        probe_tick(dt, rate, moment);
+        kind = probe_model(&delay_s, &lag_s, &accel_radps2);
+    }
+    printf("%d %.9g %.9g %.9g\n", (int)kind, (double)delay_s, (double)lag_s, (double)accel_radps2);
+    return 0;
+}
+"""
+
+
+def built(test, source, *words, compiler="cc", standard="c11"):
+    """A program in a folder that goes with the test, or with the class of tests."""
+    need(compiler)
+    folder = tempfile.TemporaryDirectory()
+    (test.addClassCleanup if isinstance(test, type) else test.addCleanup)(folder.cleanup)
+    return compiled(Path(folder.name), live_library(), source, *words, compiler=compiler, standard=standard)
+
+
+def need(compiler):
+    """Passes a test over where a compiler is missing; cc is not."""
+    if compiler != "cc" and not shutil.which(compiler):
+        raise unittest.SkipTest(f"{compiler} is not installed")
+
+
+def built_live(test):
+    """The program live.c."""
+    return built(test, (HERE / "live.c").read_text(encoding="utf8"), "-g", "-pthread")
+
+
+def ran(*words, given=b"", **variables):
+    """What a program writes to its output."""
+    return subprocess.run(words, input=given, stdout=subprocess.PIPE, check=True, env={**os.environ, **variables}).stdout
+
+
+def defined(name):
+    """A number that the header defines."""
+    return int(re.search(rf"#define {name} (\d+)", HEADER.read_text(encoding="utf8"))[1])
+
+
+def packed(config, flight):
+    """A flight as the programs read it."""
+    return wire.pack_config(config) + wire.pack_calls(*flight)
+
+
+def full_noisy_flight():
+    """A configuration and a noisy flight of more ticks than a probe stores, up to the one at which the fit falls due."""
+    config = Config(0.5, 8.3, 0.2, None)
+    flight = demo_columns("noisy")
+    report = identify.run(config, *flight)
+    assert report.ticks > report.stored == 2048 and report.model.integrated
+    return config, tuple(column[: report.ticks] for column in flight)
+
+
+def flights():
+    """Flights by name, with their configurations and endings."""
+    noisy, clean = demo_columns("noisy"), demo_columns("clean")
+    lost = [list(column) for column in made_flight(4)]
+    for tick in range(100, 1600, 97):
+        lost[1 + tick % 2][tick] = (math.nan, math.inf, -math.inf)[tick % 3]
+    turned = [list(column) for column in clean]
+    for tick in range(0, len(turned[0]), 50):
+        turned[0][tick] = (0.0, -1.0, math.nan, math.inf, 5000.0)[tick // 50 % 5]
+    return {
+        "noisy, extended": (Config(), noisy, Ending.DONE),
+        "noisy, a full window": (*full_noisy_flight(), Ending.DONE),
+        "quiet": (Config(), clean, Ending.DONE),
+        "lost readings": (Config(), lost, Ending.DONE),
+        "calls turned back": (Config(), turned, Ending.DONE),
+        "saturated": (Config(), demo_columns("saturated"), Ending.SATURATED),
+        "M1": (M1_CONFIG, ([0.25] * 6, [0.0] * 6, [0.0] * 6), Ending.UNEXCITED),
+        "cut off": (Config(), tuple(column[:1700] for column in noisy), Ending.RUNNING),
+        "no call": (Config(), ([], [], []), Ending.RUNNING),
+        "offsets that are NaN": (Config(3e38, 0.9, 0.001, Extension(-3e38, 8.0)), noisy, Ending.DONE),
+    }
+
+
+class Flights(unittest.TestCase):
+    """A flight through the header's functions, the probe lying between guards."""
+
+    @classmethod
+    def setUpClass(cls):
+        cls.live = built_live(cls)
+
+    def test_a_flight_answers_as_the_byte_run(self):
+        for name, (config, flight, ending) in flights().items():
+            with self.subTest(name):
+                expected = probe.run_bytes(wire.pack_config(config), wire.pack_calls(*flight))
+                output = ran(self.live, "fly", given=packed(config, flight))
+                self.assertEqual(output[: -STATUS.size], expected)
+                self.assertIs(Ending(output[0] >> 6), ending)
+
+    def test_the_status_is_the_report_with_names(self):
+        for name, (config, flight, _) in flights().items():
+            with self.subTest(name):
+                output = ran(self.live, "fly", given=packed(config, flight))
+                self.assertEqual(output[-STATUS.size:], status_of(output[:36]))
+
+    def test_eight_threads_answer_as_one(self):
+        config, flight = Config(), demo_columns("noisy")
+        reports = ran(self.live, "threads", given=packed(config, flight))
+        self.assertEqual(len(reports), 8 * 36)
+        self.assertEqual(reports[:36], identify.run(config, *flight).raw)
+        self.assertEqual(len({reports[k:k + 36] for k in range(0, len(reports), 36)}), 8)
+
+
+def status_of(report):
+    """The status that belongs to a report's bytes."""
+    fields = wire.split_bits(report[:12])
+    floats = struct.unpack(">6f", report[12:])
+    running = fields["kind"] == 0
+    units = probe.plain_units(report)
+    return STATUS.pack(
+        fields["kind"], floats[5] if running else 0.0, 2 * fields["d"] + fields["half"], fields["d"], fields["half"],
+        *floats[:5], 0.0 if running else floats[5], units is not None, *(units or (0.0, 0.0)),
+    )
+
+
+class Refusals(unittest.TestCase):
+    """Rules 1 to 9: the number, and nothing written."""
+
+    @classmethod
+    def setUpClass(cls):
+        cls.live = built_live(cls)
+
+    def test_a_configuration(self):
+        good, longer = (0.5, 6.0, 0.2), Extension(1.0, 8.0)
+        bad = {
+            1: [Config(x, *good[1:], longer) for x in (0.0, -0.0, math.nan, math.inf, -math.inf)],
+            2: [Config(0.5, x, 0.2, longer) for x in (0.0, -1.0, 3600.5, math.nan, math.inf)],
+            3: [Config(0.5, 6.0, x, longer) for x in (0.0, -0.2, math.nan, math.inf)],
+            4: [Config(*good, Extension(x, 8.0)) for x in (0.0, math.nan, -math.inf)],
+            5: [Config(*good, Extension(1.0, x)) for x in (5.0, 3600.5, math.nan, math.inf)],
+        }
+        cases = [(config, 0, rule) for rule, configs in bad.items() for config in configs]
+        cases += [(Config(), 1 << bit, 9) for bit in range(32)] + [(Config(0.0), 1, 9)]
+        records = b"".join(wire.pack_config(config) + struct.pack(">I", options) for config, options, _ in cases)
+        lines = ran(self.live, "open", given=records).decode().splitlines()
+        self.assertEqual(lines, [f"{rule} as it was" for *_, rule in cases])
+
+    def test_a_configuration_that_is_taken(self):
+        without = wire.pack_config(Config(extension=None))[:16] + wire.pack_floats((math.nan, math.nan))
+        flagged = wire.pack_config(Config())[:12] + b"\x80\0\0\0" + wire.pack_floats((1.0, 8.0))
+        records = b"".join(config + bytes(4) for config in (wire.pack_config(Config()), without, flagged))
+        lines = ran(self.live, "open", given=records).decode().splitlines()
+        self.assertEqual(lines, ["0 changed"] * 3)
+
+    def test_a_call(self):
+        """Each on memory that was zero before the probe was opened, and on memory that was not."""
+        cases = [(50, 0.2, dt, 6) for dt in (0.0, -0.0, -1.0, math.nan, math.inf, -math.inf)]
+        cases += [(50, 0.2, 4096.0, 7), (50, 4095.0, 1.5, 7), (1 << 24, 0.2, 4096.0, 7)]
+        cases += [(1 << 24, 0.2, 0.004, 8), (1 << 24, 5.9, 0.5, 8)]
+        records = b"".join(
+            struct.pack(">I", ticks) + wire.pack_floats((elapsed, dt, 0.5, 0.5)) for ticks, elapsed, dt, _ in cases
+        )
+        lines = ran(self.live, "turned", given=records).decode().splitlines()
+        self.assertEqual(lines, [f"{rule} as it was" for *_, rule in cases for _ in range(2)])
+
+    def test_a_call_that_is_taken(self):
+        record = struct.pack(">I", (1 << 24) - 1) + wire.pack_floats((0.2, 0.004, 0.5, 0.5))
+        self.assertEqual(ran(self.live, "turned", given=record).decode().splitlines(), ["0 changed"] * 2)
+
+
+class Garbage(unittest.TestCase):
+    """Structs that nobody opened, or that stray writes have changed."""
+
+    def test_each_call_ends_in_bounds_and_in_range(self):
+        ran(built_live(self), "garbage", str(GARBAGE))
+
+
+@unittest.skipUnless(shutil.which("valgrind"), "valgrind is not installed (Debian package valgrind)")
+class Memory(unittest.TestCase):
+    """No bad read or write, and no decision on a byte that nobody wrote."""
+
+    def check(self, *words, given=b""):
+        """Runs a program under valgrind."""
+        how = ("valgrind", "--quiet", "--error-exitcode=9", "--leak-check=full", "--track-origins=no")
+        result = subprocess.run((*how, *words), input=given, capture_output=True)
+        self.assertEqual((result.returncode, result.stderr.decode()), (0, ""))
+        return result.stdout
+
+    def test_the_example(self):
+        self.check(built(self, EXAMPLE.read_text(encoding="utf8"), "-g"))
+
+    def test_flights_and_garbage(self):
+        live = built_live(self)
+        for name in ("noisy, a full window", "lost readings", "calls turned back", "saturated"):
+            with self.subTest(name):
+                config, flight, _ = flights()[name]
+                self.check(live, "fly", given=packed(config, flight))
+        self.check(live, "garbage", "200")
+
+
+class Stack(unittest.TestCase):
+    """The call at which the fit of a full, noisy window falls due takes no more stack than the header says."""
+
+    @classmethod
+    def setUpClass(cls):
+        words = ("-O2", "-fno-omit-frame-pointer", "-pthread")
+        cls.program = built(cls, (HERE / "stack.c").read_text(encoding="utf8"), *words)
+        cls.given = packed(*full_noisy_flight())
+        cls.limit = defined("IDENTIFY_STACK")
+
+    def stack(self, *words):
+        """What the program says. All names are bound at its start: the lookup at a first call would take stack of its own."""
+        return ran(self.program, *words, given=self.given, LD_BIND_NOW="1").decode().splitlines()
+
+    def measured(self):
+        """The bytes that each function takes on a painted stack."""
+        return {name: int(count) for name, count in map(str.split, self.stack("measure"))}
+
+    def test_measured(self):
+        taken = self.measured()
+        self.assertEqual(set(taken), {"open", "step", "status", "report"})
+        self.assertEqual(max(taken, key=taken.get), "step")
+        self.assertLessEqual(taken["step"], self.limit)
+        self.assertGreater(taken["step"], self.limit - 4096, "the header says a page more than the call takes")
+
+    def test_a_thread_with_just_that_much(self):
+        self.assertEqual(self.stack("exact", str(self.limit)), ["done"])
+
+    def test_a_thread_with_less_ends(self):
+        with self.assertRaisesRegex(subprocess.CalledProcessError, "SIGSEGV"):
+            self.stack("exact", str(self.measured()["step"] - 256))
+
+
+class Arithmetic(unittest.TestCase):
+    """identify_arithmetic_ok in each mode of the processor, as different compilers make it."""
+
+    def answers(self, *words, compiler="cc"):
+        """The modes in which it answers 1: for floats and doubles alike, since one register sets the mode of both."""
+        program = built(self, (HERE / "arithmetic.c").read_text(encoding="utf8"), *words, compiler=compiler)
+        lines = dict(line.split() for line in ran(program).decode().splitlines())
+        self.assertEqual(tuple(lines), MODES)
+        self.assertLessEqual(set(lines.values()), {"000", "111"})
+        return [mode for mode, answer in lines.items() if answer == "111"]
+
+    def test_only_the_default_is_good(self):
+        for compiler in COMPILERS:
+            for level in ("-O0", "-O1", "-O2", "-O3"):
+                with self.subTest(compiler=compiler, level=level):
+                    self.assertEqual(self.answers(level, compiler=compiler), ["default"])
+
+    def test_no_other_mode_is_good_where_the_compiler_takes_liberties(self):
+        for compiler in COMPILERS:
+            with self.subTest(compiler):
+                self.assertLessEqual(set(self.answers("-O3", "-ffast-math", compiler=compiler)), {"default"})
+
+    def test_excess_precision_is_not_good(self):
+        self.assertEqual(self.answers("-O2", "-mfpmath=387", compiler="gcc"), [])
+
+    @unittest.skipUnless("fma" in Path("/proc/cpuinfo").read_text().split(), "the processor has no fused multiply-add")
+    def test_fused_is_not_good(self):
+        for compiler in COMPILERS:
+            with self.subTest(compiler):
+                self.assertEqual(self.answers("-O2", "-mfma", "-ffp-contract=fast", compiler=compiler), [])
+
+
+class Example(unittest.TestCase):
+    """examples/autopilot.c."""
+
+    def test_it_answers_as_the_byte_run_over_its_log(self):
+        for compiler, standard in (("cc", "c11"), ("g++", "c++17")):
+            with self.subTest(standard), tempfile.TemporaryDirectory() as folder:
+                path = Path(folder) / "log.csv"
+                program = built(self, EXAMPLE.read_text(encoding="utf8"), compiler=compiler, standard=standard)
+                *screen, last = ran(program, path).decode().splitlines()
+                log = identify.read_log(path)
+                report = identify.run(Config(), log.dt, log.rate, log.moment)
+                self.assertEqual(last, report.raw.hex().upper())
+                self.assertEqual(offsets_of(path), report.offsets)
+                self.assertEqual(screen[-4:], words_of(report.model))
+                self.assertEqual([line.split()[0] for line in screen[:-4]], [f"{second}.0" for second in range(1, 8)])
+                self.assertEqual(screen[:-4], ran(program).decode().splitlines()[:-5])
+
+
+def offsets_of(path):
+    """The offsets that the example logged, in single precision."""
+    return tuple(wire.singles(float(line.split(",")[3]) for line in path.read_text().splitlines()[1:]))
+
+
+def words_of(model):
+    """What the example's screen shows of a model."""
+    half = " and a half" if model.half_ticks % 2 else ""
+    return [
+        "done",
+        f"  delay  {1000 * model.delay_s:.2f} ms: {model.whole_ticks} ticks{half} of {1000 * model.dt_s:.2f} ms",
+        f"  lag    {1000 * model.lag_s:.2f} ms",
+        f"  push   {model.accel_radps2:.2f} rad/s2 per unit moment",
+    ]
+
+
+class Sources(unittest.TestCase):
+    """What a caller compiles: the header and the README's lines."""
+
+    def readme(self):
+        """The README's lines, with a caller that flies a log."""
+        text = (ROOT / "README.md").read_text(encoding="utf8")
+        return re.search(r"```c\n(.*?)```", text, re.DOTALL)[1] + README_CALLER
+
+    def test_the_readmes_lines_identify_a_flight(self):
+        flight = demo_columns("noisy")
+        model = identify.run(Config(), *flight).model
+        lines = "\n".join(",".join(map(repr, call)) for call in zip(*flight))
+        for compiler, standard in STANDARDS:
+            with self.subTest(standard):
+                program = built(self, self.readme(), "-Wconversion", compiler=compiler, standard=standard)
+                kind, *values = ran(program, given=lines.encode()).decode().split()
+                self.assertEqual(kind, "1")
+                expected = (model.delay_s, model.lag_s, model.accel_radps2)
+                for value, wanted in zip(map(float, values), expected, strict=True):
+                    self.assertAlmostEqual(value, wanted, delta=1e-6 * wanted)
+
+    def test_the_sizes_that_the_readme_says(self):
+        text = (ROOT / "README.md").read_text(encoding="utf8")
+        self.assertIn(f"a struct of {defined('IDENTIFY_PROBE_SIZE'):,} bytes", text)
+        self.assertIn(f"{math.ceil(defined('IDENTIFY_STACK') / 1024)} KB of stack", text)
+
+    def test_a_struct_of_another_size_does_not_compile(self):
+        header = HEADER.read_text(encoding="utf8")
+        for compiler, standard in STANDARDS:
+            for text, compiles in ((header, True), (header.replace("float floats[14];", "float floats[15];"), False)):
+                with self.subTest(standard, compiles=compiles):
+                    need(compiler)
+                    words = (compiler, f"-std={standard}", "-fsyntax-only", "-x", standard.rstrip("0123456789"), "-")
+                    result = subprocess.run(words, input=text, text=True, capture_output=True)
+                    self.assertEqual(result.returncode == 0, compiles)
+                    self.assertEqual("identify_probe_has_its_size" in result.stderr, not compiles)
+
+
+if __name__ == "__main__":
+    unittest.main()
