@@ -202,7 +202,9 @@ typedef struct identify_state {
     float accel_radps2;             /* acceleration per unit moment, once the lag has settled */
 } identify_state;
 
-/* The library's side of the functions below, which alone call it. Each takes the parts of one probe, in full. */
+/* The library's side of the functions below, which hand the parts of one probe over in full. A caller in another language does
+ * the same, with identify_live_ready before each step.
+ */
 uint32_t identify_live_open(uint32_t words[8], float floats[14], float amplitude, float duration_s, float washout_tc_s,
                             uint32_t extension, float extension_amplitude, float extension_duration_s, uint32_t options);
 void identify_live_ready(const uint32_t words[8], const float floats[14], uint8_t held[IDENTIFY_SAMPLES], float dt);

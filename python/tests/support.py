@@ -6,6 +6,7 @@ import os
 import random
 import subprocess
 import sys
+import unittest
 from pathlib import Path
 
 ROOT = Path(__file__).resolve().parents[2]
@@ -86,10 +87,13 @@ def byte_library() -> Path:
 
 @functools.cache
 def live_library() -> Path:
-    """The library of a probe in flight, liblive.a: the one that IDENTIFY_LIVE names, or built from the sources."""
+    """The library of a probe in flight, liblive.a: the one that IDENTIFY_LIVE names, or built from the sources. A test is
+    passed over where it can be neither."""
     named = os.environ.get("IDENTIFY_LIVE")
     if named:
         return Path(named).resolve()
+    if not library.can_build(ROOT):
+        raise unittest.SkipTest("liblive.a cannot be built here, and IDENTIFY_LIVE names none")
     library.command(("rt", "staticlib", "live"), ROOT)
     return ROOT / "target/staticlib/liblive.a"
 

@@ -43,7 +43,7 @@ pub fn open(
     }) {
         Opened::Refused(number) => number,
         Opened::Probe(probe) => {
-            probe_words::write_probe(words, floats, probe);
+            probe_writing::write_probe(words, floats, probe);
             0
         }
     }
@@ -59,7 +59,7 @@ fn keep(stepped: Stepped, words: &mut [u32; 8], floats: &mut [f32; 14], offset: 
 {
     match stepped {
         Stepped::Offset(x, next) => {
-            probe_words::write_probe(words, floats, next);
+            probe_writing::write_probe(words, floats, next);
             *offset = x;
             0
         }

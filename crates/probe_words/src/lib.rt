@@ -1,9 +1,8 @@
-// A probe's scalars in two arrays that its caller keeps: eight words, and fourteen floats, of which the last six are those of its status.
+// A probe from two arrays that its caller keeps: eight words, and fourteen floats, of which the last six are those of its status.
 ghost use mathlib.Core.Path.{_≡_};
 ghost use Prim.Native.Nat.{_≤_, min};
 ghost use Rattle.window.specs.Samples.{capacity};
-ghost use Rattle.window.specs.Arrays.{storedOf};
-ghost use Rattle.probe_words.specs.Layout.{scalars, leftIn, noisyBy, modelBy, statusBy, sweepBy, windowBy, probeIn, flagOf, extensionFlag, extensionOrZeros, wordsOf, floatsIn, scalarsOf};
+ghost use Rattle.probe_words.specs.Layout.{scalars, noisyBy, modelBy, statusBy, sweepBy, windowBy, probeIn};
 use account::IdentifyExtension;
 use account::IdentifyStatus;
 use account::Noisy;
@@ -12,8 +11,6 @@ use delay::RateModel;
 use identify::IdentifyProbe;
 use sweep::SquareSweep;
 use window::Window;
-
-// ---- read
 
 // An extension by its flag: 0 is none.
 pub fn noisy_by(flag: u32, amplitude: f32, duration_s: f32) -> Noisy
@@ -105,96 +102,4 @@ pub fn probe_of(words: &[u32; 8], floats: &[f32; 14]) -> IdentifyProbe
         ticks: words[2],
         gain_fits: words[4],
     }
-}
-
-// ---- written
-
-fn flag(on: bool) -> u32
-    ensures { λ r. ⌜ r ≡ flagOf on ⌝ }
-{
-    if on { 1 } else { 0 }
-}
-
-fn extension_flag(noisy: Noisy) -> u32
-    ensures { λ r. ⌜ r ≡ extensionFlag noisy ⌝ }
-{
-    match noisy {
-        Noisy::Absent => 0,
-        Noisy::Present(_) => 1,
-    }
-}
-
-// No extension is written as zeros.
-fn extension_or_zeros(noisy: Noisy) -> IdentifyExtension
-    ensures { λ r. ⌜ r ≡ extensionOrZeros noisy ⌝ }
-{
-    match noisy {
-        Noisy::Absent => IdentifyExtension {
-            amplitude: 0.0,
-            duration_s: 0.0,
-        },
-        Noisy::Present(x) => x,
-    }
-}
-
-fn stored_word(window: Window) -> u32
-    ensures { λ r. ⌜ r ≡ storedOf window ⌝ }
-{
-    window.stored() as u32
-}
-
-fn words_of(probe: IdentifyProbe) -> [u32; 8]
-    ensures { λ r. ⌜ r ≡ wordsOf probe ⌝ }
-{
-    let status = probe.status;
-    let noisy = probe.noisy;
-    let sweep = probe.sweep;
-    let window = probe.window;
-    let delay = report::kept_delay(status);
-    [
-        report::kind(status),
-        delay.half_ticks,
-        probe.ticks,
-        stored_word(window),
-        probe.gain_fits,
-        extension_flag(noisy),
-        sweep.edge,
-        flag(sweep.high),
-    ]
-}
-
-fn floats_of(probe: IdentifyProbe) -> [f32; 14]
-    ensures { λ r. ⌜ r ≡ floatsIn probe ⌝ }
-{
-    let noisy = probe.noisy;
-    let sweep = probe.sweep;
-    let window = probe.window;
-    let extension = extension_or_zeros(noisy);
-    let status = probe.status;
-    let model = report::floats(status);
-    [
-        probe.duration_s,
-        extension.amplitude,
-        extension.duration_s,
-        sweep.amplitude,
-        sweep.washout_tc_s,
-        sweep.next_edge_s,
-        sweep.washout,
-        window.duration_s,
-        model[0],
-        model[1],
-        model[2],
-        model[3],
-        model[4],
-        model[5],
-    ]
-}
-
-// The probe's scalars into the two arrays.
-pub fn write_probe(words: &mut [u32; 8], floats: &mut [f32; 14], probe: IdentifyProbe)
-    ensures scalars { λ _. ⌜ leftIn words floats ≡ scalarsOf probe ⌝ }
-    ensures back { λ _. ⌜ (probe .window .len ≤ capacity → probeIn (leftIn words floats) ≡ probe) ⌝ }
-{
-    *words = words_of(probe);
-    *floats = floats_of(probe);
 }

@@ -2,8 +2,8 @@
 use borrow.Author.Needs.{needs}
 use native.Mathlib.Omega.{arith}
 use Rattle.window.specs.Arrays.{storedOf}
-use Rattle.probe_words.proofs.stored_word.Statement.{statement}
-use Rattle.probe_words.proofs.stored_word.Tie as tie
+use Rattle.probe_writing.proofs.stored_word.Statement.{statement}
+use Rattle.probe_writing.proofs.stored_word.Tie as tie
 
 stored-requires : tie.Need-stored-requires
 stored-requires c κs = search needs

@@ -1,9 +1,9 @@
 -- Each field at its place, and then the six floats of the status.
 use borrow.Author.Needs.{needs}
 use Rattle.probe_words.proofs.Back.{six}
 use Rattle.probe_words.specs.Layout.{floatsIn}
-use Rattle.probe_words.proofs.floats_of.Statement.{statement}
-use Rattle.probe_words.proofs.floats_of.Tie as tie
+use Rattle.probe_writing.proofs.floats_of.Statement.{statement}
+use Rattle.probe_writing.proofs.floats_of.Tie as tie
 
 extension-or-zeros-requires : tie.Need-extension-or-zeros-requires
 extension-or-zeros-requires c κs = search needs

@@ -1,8 +1,8 @@
 -- A case each.
 use borrow.Author.Needs.{needs}
 use Rattle.probe_words.specs.Layout.{extensionOrZeros}
-use Rattle.probe_words.proofs.extension_or_zeros.Statement.{statement}
-use Rattle.probe_words.proofs.extension_or_zeros.Tie as tie
+use Rattle.probe_writing.proofs.extension_or_zeros.Statement.{statement}
+use Rattle.probe_writing.proofs.extension_or_zeros.Tie as tie
 
 enum-told : tie.Need-enum-told
 enum-told c = search needs

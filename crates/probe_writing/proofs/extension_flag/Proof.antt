@@ -1,8 +1,8 @@
 -- 1 for an extension, 0 for none.
 use borrow.Author.Needs.{needs}
 use Rattle.probe_words.specs.Layout.{extensionFlag}
-use Rattle.probe_words.proofs.extension_flag.Statement.{statement}
-use Rattle.probe_words.proofs.extension_flag.Tie as tie
+use Rattle.probe_writing.proofs.extension_flag.Statement.{statement}
+use Rattle.probe_writing.proofs.extension_flag.Tie as tie
 
 enum-told : tie.Need-enum-told
 enum-told c = search needs

@@ -1,8 +1,8 @@
 -- The two arrays by their parts; what is written is read back.
 use borrow.Author.Needs.{needs}
 use Rattle.probe_words.proofs.Back.{back}
-use Rattle.probe_words.proofs.write_probe.Statement.{statement}
-use Rattle.probe_words.proofs.write_probe.Tie as tie
+use Rattle.probe_writing.proofs.write_probe.Statement.{statement}
+use Rattle.probe_writing.proofs.write_probe.Tie as tie
 
 words-of-requires : tie.Need-words-of-requires
 words-of-requires c κs = search needs

@@ -1,8 +1,8 @@
 -- Each field at its place, by its own part.
 use borrow.Author.Needs.{needs}
 use Rattle.probe_words.specs.Layout.{wordsOf}
-use Rattle.probe_words.proofs.words_of.Statement.{statement}
-use Rattle.probe_words.proofs.words_of.Tie as tie
+use Rattle.probe_writing.proofs.words_of.Statement.{statement}
+use Rattle.probe_writing.proofs.words_of.Tie as tie
 
 kept-delay-requires : tie.Need-kept-delay-requires
 kept-delay-requires c κs = search needs
