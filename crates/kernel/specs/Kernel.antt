@@ -48,6 +48,10 @@ sumsAt m mm mc mt h = record { m = at m h; mm = at mm h; mc = at mc h; mt = at m
 abbrev pub lane : LaneSums → ℕ → Sums
 lane r = sumsAt (r .m) (r .mm) (r .mc) (r .mt)
 
+-- lane h with n ticks more: its regressors are woven in xs from tick first on, beside the two leaky series from place from on
+abbrev pub lanesOn : Float → (xs cs ts : List Float) → (first from h : ℕ) → Sums → ℕ → Sums
+lanesOn carry xs cs ts first from h s n = sumsOn carry (λ i. at xs ((first + i) * laneCount + h)) (λ i. at cs (from + i)) (λ i. at ts (from + i)) s n
+
 -- how many of n ticks the lanes of whole tick d + 1 have once the moments before tick k are in: their first regressor is that of tick 11 - d
 abbrev pub reachedOf : (n d k : ℕ) → ℕ
 reachedOf n d k = min (k - (firstTick - d)) n
@@ -56,7 +60,7 @@ reachedOf n d k = min (k - (firstTick - d)) n
 abbrev pub blockOn : Float → (xs cs ts : List Float) → (n d k h : ℕ) → Sums → Sums
 blockOn carry xs cs ts n d k h s =
     let from = reachedOf n d k in
-    sumsOn carry (λ i. at xs ((firstTick - d + from - k + i) * laneCount + h)) (λ i. at cs (from + i)) (λ i. at ts (from + i)) s (reachedOf n d (k + blockTicks) - from)
+    lanesOn carry xs cs ts (firstTick - d + from - k) from h s (reachedOf n d (k + blockTicks) - from)
 
 -- what stands past the end of a list of lanes
 abbrev pub noLanes : LaneSums

@@ -5,7 +5,7 @@ ghost use Prim.Native.Nat.{ℕ, _+_, _-_, _*_, _≤_, _<_};
 ghost use lib.ListN.{replicate};
 ghost use Rattle.float.specs.Series.{at, fill};
 ghost use Rattle.lanes.specs.Lanes.{laneCount};
-ghost use Rattle.kernel.specs.Kernel.{wholeTicks, placeCount, lane, oneOn, sumsOn, reachedOf, blockOn, lanesAt, tickSums, solvedPlace, placeFit};
+ghost use Rattle.kernel.specs.Kernel.{wholeTicks, placeCount, lane, oneOn, lanesOn, reachedOf, blockOn, lanesAt, tickSums, solvedPlace, placeFit};
 use gain::GainFit;
 use gain::Shared;
 
@@ -48,7 +48,7 @@ fn sum_lanes(
     n: usize,
 ) -> LaneSums
     requires { ⌜ (first + n ≤ 128) × (from + n ≤ 2048) ⌝ }
-    ensures { λ r. ⌜ ((h : ℕ) → h < laneCount → lane r h ≡ sumsOn carry (λ i. at (now (xs .entry)) ((first + i) * laneCount + h)) (λ i. at (now (cs .entry)) (from + i)) (λ i. at (now (ts .entry)) (from + i)) (lane sums h) n) ⌝ }
+    ensures { λ r. ⌜ ((h : ℕ) → h < laneCount → lane r h ≡ lanesOn carry (now (xs .entry)) (now (cs .entry)) (now (ts .entry)) first from h (lane sums h) n) ⌝ }
 {
     let mut on = sums;
     for i in 0..n {

@@ -16,7 +16,7 @@ use Rattle.account.specs.declared.IdentifyStatus.the-variants.{Running, Done, U
 use Rattle.account.specs.Probe.{delayOf}
 use Rattle.report.specs.Report.{kindOf, floatsOf}
 use Rattle.identify.specs.declared.IdentifyProbe.{IdentifyProbe}
-use Rattle.probe_words.specs.Layout.{Scalars, flagOf, extensionFlag, extensionOrZeros, noisyBy, modelBy, statusBy, sweepBy, windowBy, probeIn, wordsOf, floatsIn, scalarsOf}
+use Rattle.probe_words.specs.Layout.{Scalars, flagOf, extensionFlag, extensionOrZeros, noisyBy, statusBy, probeIn, wordsOf, floatsIn, scalarsOf}
 
 flag-back : (b : Bool) → not (eqb (flagOf b) 0) ≡ b
 flag-back true = refl
@@ -28,7 +28,7 @@ noisy-back Absent = refl
 noisy-back (Present x) = refl
 
 status-back : (s : IdentifyStatus) (a b c d e f g h : Float) → statusBy (kindOf s) (delayOf s .«half_ticks») (a ∷ b ∷ c ∷ d ∷ e ∷ f ∷ g ∷ h ∷ floatsOf s) ≡ s
-unfolding statusBy modelBy kindOf delayOf floatsOf
+unfolding statusBy kindOf delayOf floatsOf
 status-back (Running x) a b c d e f g h = refl
 status-back (Done m) a b c d e f g h = refl
 status-back Unexcited a b c d e f g h = refl
@@ -44,7 +44,7 @@ six Saturated = refl
 
 -- a probe whose window is within its arrays
 pub back : (p : IdentifyProbe) → p .window .len ≤ capacity → probeIn (scalarsOf p) ≡ p
-unfolding probeIn wordsOf floatsIn sweepBy windowBy storedOf
+unfolding probeIn wordsOf floatsIn storedOf
 back p h =
     let stored : min (min (p .window .len) capacity) capacity ≡ p .window .len = omega arith in
     λ i. record {
@@ -66,5 +66,5 @@ back p h =
 
 -- any content is read as such a one
 pub inside : (s : Scalars) → probeIn s .window .len ≤ capacity
-unfolding probeIn windowBy
+unfolding probeIn
 inside s = omega arith

@@ -49,7 +49,7 @@ unfoldable pub noisyBy : ℕ → (amplitude duration : Float) → Noisy
 noisyBy zero amplitude duration = Absent
 noisyBy (suc flag) amplitude duration = Present (record { amplitude = amplitude; «duration_s» = duration })
 
-unfoldable pub modelBy : ℕ → List Float → RateModel
+abbrev pub modelBy : ℕ → List Float → RateModel
 modelBy halves l = record {
   r1 = at l 8;
   r2 = at l 9;
@@ -67,7 +67,7 @@ statusBy (suc zero) halves l = Done (modelBy halves l)
 statusBy (suc (suc zero)) halves l = Unexcited
 statusBy (suc (suc (suc kind))) halves l = Saturated
 
-unfoldable pub sweepBy : List ℕ → List Float → SquareSweep
+abbrev pub sweepBy : List ℕ → List Float → SquareSweep
 sweepBy words floats = record {
   amplitude = at floats 3;
   «washout_tc_s» = at floats 4;
@@ -78,7 +78,7 @@ sweepBy words floats = record {
 }
 
 -- never more samples than there is room for
-unfoldable pub windowBy : ℕ → Float → Window
+abbrev pub windowBy : ℕ → Float → Window
 windowBy stored duration = record { len = min stored capacity; «duration_s» = duration }
 
 unfoldable pub probeIn : Scalars → IdentifyProbe

@@ -1,7 +1,7 @@
 -- Each field from its place, by its own part; the count of samples is within their room.
 use borrow.Author.Needs.{needs}
 use native.Mathlib.Omega.{arith}
-use Rattle.probe_words.specs.Layout.{probeIn, windowBy}
+use Rattle.probe_words.specs.Layout.{probeIn}
 use Rattle.probe_words.proofs.probe_of.Statement.{statement}
 use Rattle.probe_words.proofs.probe_of.Tie as tie
 
@@ -55,7 +55,7 @@ returns c =
     let t = s .before in
     let n = t .before .before .before in (
       rw (w .window-by .ensures, s .sweep-by .ensures, t .status-by .ensures, n .noisy-by .ensures),
-      rw (w .window-by .ensures) (unfold windowBy in omega arith),
+      rw (w .window-by .ensures) (omega arith),
     )
 
 pub probe-of-spec : {M : Type 1} → statement M

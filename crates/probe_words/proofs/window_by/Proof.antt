@@ -1,6 +1,5 @@
 -- The count as it is read, beside the duration.
 use borrow.Author.Needs.{needs}
-use Rattle.probe_words.specs.Layout.{windowBy}
 use Rattle.probe_words.proofs.window_by.Statement.{statement}
 use Rattle.probe_words.proofs.window_by.Tie as tie
 
@@ -8,7 +7,6 @@ within-room-requires : tie.Need-within-room-requires
 within-room-requires c κs = search needs
 
 returns : tie.Need-returns
-unfolding windowBy
 returns c = rw (c .within-room .ensures)
 
 pub window-by-spec : {M : Type 1} → statement M
