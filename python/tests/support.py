@@ -87,15 +87,20 @@ def byte_library() -> Path:
 
 @functools.cache
 def live_library() -> Path:
-    """The library of a probe in flight, liblive.a: the one that IDENTIFY_LIVE names, or built from the sources. A test is
-    passed over where it can be neither."""
+    """The library of a probe in flight, liblive.a: the one that IDENTIFY_LIVE names, or that of the sources, built where it
+    was built from others. A test is passed over where it can be neither."""
     named = os.environ.get("IDENTIFY_LIVE")
     if named:
         return Path(named).resolve()
     if not library.can_build(ROOT):
         raise unittest.SkipTest("liblive.a cannot be built here, and IDENTIFY_LIVE names none")
-    library.command(("rt", "staticlib", "live"), ROOT)
-    return ROOT / "target/staticlib/liblive.a"
+    archive, built_from = ROOT / "target/staticlib/liblive.a", ROOT / "target/identify/live.sha256"
+    sources = library.digest(ROOT)
+    if not archive.is_file() or not built_from.is_file() or built_from.read_text() != sources:
+        library.command(("rt", "staticlib", "live"), ROOT)
+        built_from.parent.mkdir(parents=True, exist_ok=True)
+        built_from.write_text(sources)
+    return archive
 
 
 def compiled(folder: Path, archive: Path, source: str, *words: str, compiler: str = "cc", standard: str = "c11") -> Path:

