@@ -1,10 +1,10 @@
 #!/usr/bin/env python3
-"""Makes the three flights beside this file: python3 demo/make_flights.py [FOLDER].
+"""Makes the four flights beside this file: python3 demo/make_flights.py [FOLDER].
 
-Each flight simulates one axis in closed loop. Within a tick the airframe is integrated in small steps: the moment reaches
-it after a delay and through a motor lag, and its rate integrates gain x moment. The gyro adds noise; a P controller turns
-setpoint minus measured rate into the next moment, limited to 1. The setpoint is the probe's offset, and the offsets are the
-library's own (see `fly`). The logged digits are those that the loop used, so a log is exact.
+Each flight simulates one axis in closed loop, or two. Within a tick the airframe is integrated in small steps: the moment
+reaches it after a delay and through a motor lag, and its rate integrates gain x moment. The gyro adds noise; a P controller
+turns setpoint minus measured rate into the next moment, limited to 1. The setpoint is the probe's offset, and the offsets are
+the library's own (see `fly_axes`). The logged digits are those that the loop used, so a log is exact.
 
 The same digits come out each time: the noise is a sum of uniform numbers from Python's generator with a fixed seed.
 """
@@ -15,6 +15,7 @@ import math
 import random
 import sys
 from collections import deque
+from collections.abc import Sequence
 from dataclasses import dataclass, field
 from pathlib import Path
 
@@ -64,6 +65,12 @@ FLIGHTS = (
     Flight("saturated", seed=3, noise=0.03, p=3.0, seconds=6.2),
 )
 """One airframe: quiet; with gyro noise; with gyro noise and the controller's gain ten times too high."""
+
+ROLL_PITCH = (
+    Flight("roll", seed=1, noise=0.0, p=0.2, gain=60.0, lag_s=0.02, delay_s=0.005, trim=0.01),
+    Flight("pitch", seed=2, noise=0.03, p=0.3, gain=40.0, lag_s=0.04, delay_s=0.013),
+)
+"""Two axes of another airframe: roll quiet, pitch with gyro noise."""
 
 
 @dataclass
@@ -136,45 +143,72 @@ class Loop:
 
 
 def fly(flight: Flight, config: identify.Config) -> tuple[list[float], Loop, identify.Report]:
-    """Flies with the offsets that the library gives.
+    """Flies one axis."""
+    dt, (loop,), (report,) = fly_axes((flight,), config)
+    return dt, loop, report
+
+
+def fly_axes(
+    flights: Sequence[Flight], config: identify.Config
+) -> tuple[list[float], list[Loop], Sequence[identify.Report]]:
+    """Flies one axis, or two at once, with the offsets that the library gives.
 
     An offset hangs on the readings only through one decision: at the configuration's duration the probe looks at the window
     and may take the extension. So the library is asked twice, with zeros for the readings that are still to come: before
     the start, and again once that window is flown. A third run over the whole flight must give the offsets that were flown.
     """
-    ticks = round(flight.seconds / flight.tick_s)
-    dt = [flight.tick_s] * ticks
-    loop = Loop(flight)
-    zeros = [0.0] * ticks
-    first_leg = identify.run(dataclasses.replace(config, extension=None), dt, zeros, zeros)
-    for offset in first_leg.offsets[: first_leg.ticks]:
-        loop.tick(offset)
-    rest = zeros[first_leg.ticks :]
-    second_leg = identify.run(config, dt, loop.rates + rest, loop.moments + rest)
-    for offset in second_leg.offsets[first_leg.ticks :]:
-        loop.tick(offset)
-    report = identify.run(config, dt, loop.rates, loop.moments)
-    if report.offsets != second_leg.offsets:
-        raise AssertionError(f"{flight.name}: the flown offsets are not the probe's")
-    return dt, loop, report
+    ticks = round(flights[0].seconds / flights[0].tick_s)
+    dt = [flights[0].tick_s] * ticks
+    loops = [Loop(flight) for flight in flights]
+    first_leg = run(dataclasses.replace(config, extension=None), dt, loops)
+    fly_leg(loops, first_leg, 0, first_leg[0].ticks)
+    second_leg = run(config, dt, loops)
+    fly_leg(loops, second_leg, first_leg[0].ticks, ticks)
+    reports = run(config, dt, loops)
+    if [report.offsets for report in reports] != [report.offsets for report in second_leg]:
+        raise AssertionError(f"{flights[0].name}: the flown offsets are not the probe's")
+    return dt, loops, reports
 
 
-def csv_text(dt: list[float], loop: Loop, report: identify.Report) -> str:
-    """The log, with two columns more than the identifier reads: time and offset."""
-    lines = ["time,dt,rate,moment,offset"]
-    for tick, (step, rate, moment, offset) in enumerate(zip(dt, loop.rates, loop.moments, report.offsets)):
-        lines.append(f"{(tick + 1) * step:.3f},{step:.3f},{rate:.{DIGITS}f},{moment:.{DIGITS}f},{offset:.4f}")
+def run(config: identify.Config, dt: list[float], loops: Sequence[Loop]) -> Sequence[identify.Report]:
+    """The library's report of each axis, with zeros for the readings that are still to come."""
+    rest = [0.0] * (len(dt) - len(loops[0].rates))
+    readings = [column + rest for loop in loops for column in (loop.rates, loop.moments)]
+    return (identify.run(config, dt, *readings),) if len(loops) == 1 else identify.run_two_axis(config, dt, *readings).axes
+
+
+def fly_leg(loops: Sequence[Loop], reports: Sequence[identify.Report], first: int, end: int) -> None:
+    """Flies each axis with its offsets from one tick to another."""
+    for loop, report in zip(loops, reports):
+        for offset in report.offsets[first:end]:
+            loop.tick(offset)
+
+
+def csv_text(dt: list[float], loops: Sequence[Loop], reports: Sequence[identify.Report]) -> str:
+    """The log, with more columns than the identifier reads: time, and offset of each axis. Of two axes each has its name."""
+    prefixes = [f"{loop.flight.name}_" if len(loops) > 1 else "" for loop in loops]
+    names = [f"{prefix}{column}" for columns in (("rate", "moment"), ("offset",)) for prefix in prefixes for column in columns]
+    lines = [",".join(["time", "dt", *names])]
+    for tick, step in enumerate(dt):
+        readings = [f"{value:.{DIGITS}f}" for loop in loops for value in (loop.rates[tick], loop.moments[tick])]
+        offsets = [f"{report.offsets[tick]:.4f}" for report in reports]
+        lines.append(",".join([f"{(tick + 1) * step:.3f}", f"{step:.3f}", *readings, *offsets]))
     return "\n".join(lines) + "\n"
 
 
 def main() -> None:
-    """Writes the three logs and prints how each ends."""
+    """Writes the logs and prints how each ends."""
     folder = Path(sys.argv[1]) if len(sys.argv) > 1 else Path(__file__).resolve().parent
-    for flight in FLIGHTS:
-        dt, loop, report = fly(flight, identify.Config())
-        (folder / f"{flight.name}.csv").write_text(csv_text(dt, loop, report))
-        delay = f", {report.model.delay_ticks:g} ticks" if report.model else ""
-        print(f"{flight.name}.csv: {report.ending.name.lower()}{delay}")
+    for flights in (*((flight,) for flight in FLIGHTS), ROLL_PITCH):
+        name = "_".join(flight.name for flight in flights)
+        flown = fly_axes(flights, identify.Config())
+        (folder / f"{name}.csv").write_text(csv_text(*flown))
+        print(f"{name}.csv: {'; '.join(ending(report) for report in flown[2])}")
+
+
+def ending(report: identify.Report) -> str:
+    """How an axis ended, in words."""
+    return report.ending.name.lower() + (f", {report.model.delay_ticks:g} ticks" if report.model else "")
 
 
 if __name__ == "__main__":

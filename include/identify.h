@@ -1,8 +1,9 @@
-/* The rate identifier: a probe that an autopilot steps in flight; one probe over a list of calls, as bytes; and a report's lag
- * and acceleration in plain units.
+/* The rate identifier: a probe that an autopilot steps in flight, for one axis or as a pair for two; one probe, or a pair, over
+ * a list of calls, as bytes; and a report's lag and acceleration in plain units.
  *
- * libexports.a has the functions over bytes, and liblive.a those of a probe in flight, which an autopilot needs alone. They are
- * built by `rt staticlib exports` and `rt staticlib live`, into target/staticlib/ (x86-64). A program may link both.
+ * libexports.a has the functions over bytes for one axis, liblive.a those of a probe in flight, and libpair.a all those of two
+ * axes. Each stands by itself, and a program may link any of them together. They are built by `rt staticlib exports`,
+ * `rt staticlib live` and `rt staticlib pair`, into target/staticlib/ (x86-64).
  *
  * Example: a list of 500 calls of 4 ms from an axis with a lag of 30 ms, whose acceleration settles at 40 rad/s2 for a moment
  * of 1.
@@ -129,6 +130,31 @@ uint32_t identify_byte_run(const uint8_t *config, size_t config_len, const uint8
  */
 uint32_t identify_plain_units(const uint8_t *report, size_t report_len, uint8_t *output, size_t output_len);
 
+/* Runs a pair, one probe for each of two axes, from one configuration over a list of calls. What is not said here is as for
+ * identify_byte_run.
+ *
+ * config   24 bytes, for both axes.
+ * calls    20 bytes a call: dt in s, then rate and moment of axis 1, then rate and moment of axis 2.
+ * output   at least 77 bytes and 8 a call. The run writes the report of the pair, 77 bytes, and then two words a call: the
+ *          offset of axis 1 and that of axis 2, or 7FC00000 + N in both for a call that rule N turned back. Later bytes are
+ *          untouched.
+ *
+ * Report of the pair: the report of axis 1, 36 bytes, the report of axis 2, 36 bytes, each as identify_byte_run writes it; then
+ * the ticks of both added up in 26 bits, the rows of both added up in 13, and a zero bit, most significant first.
+ *
+ * Each axis has its own window and its own fits. Two things tie them:
+ *   The levels   axis 1 starts high, as a single probe does, and axis 2 low: its offset is 0 up to the sweep's first edge.
+ *   The ends     where either window reads noisy at duration_s, both take the extension, once a flight. Both end in the same
+ *                call, each with its own answer.
+ *
+ * Answers 0, or a number, and then no byte is written: 1 to 5, or 9 where config is not 24 bytes, calls are not a multiple of
+ * 20 or the output is too short. A call that 6, 7 or 8 turns back is turned back for both axes and changes neither.
+ *
+ * It takes up to 99,500 bytes of stack.
+ */
+uint32_t identify_two_axis_run(const uint8_t *config, size_t config_len, const uint8_t *calls, size_t calls_len,
+                               uint8_t *output, size_t output_len);
+
 /* ---- A probe in flight
  *
  * The probe is a struct in the caller's memory. The caller opens it, steps it once a tick, adds the offset to the rate
@@ -143,7 +169,8 @@ uint32_t identify_plain_units(const uint8_t *report, size_t report_len, uint8_t 
  * writes nothing outside the struct and what it was handed.
  */
 
-/* The most stack that a call of a function below takes, in bytes: that of identify_step at which a fit falls due. */
+/* The most stack that a call of a function below takes, in bytes, for one probe or a pair: that of a step at which a fit falls
+ * due. */
 #define IDENTIFY_STACK 46700
 
 /* The size of a probe, in bytes. */
@@ -240,13 +267,10 @@ static inline uint32_t identify_step(identify_probe *probe, float dt, float rate
                               moment, offset);
 }
 
-/* Where the probe stands. */
-static inline identify_state identify_status(const identify_probe *probe)
+/* The status that the library's numbers and floats tell. */
+static inline identify_state identify_state_of(const uint32_t numbers[5], const float model[6], const float plain[2])
 {
-    uint32_t numbers[5];
-    float model[6], plain[2];
     identify_state state;
-    identify_live_status(probe->words, probe->floats, numbers, model, plain);
     state.kind = (identify_kind)numbers[0];
     state.elapsed_s = state.kind == IDENTIFY_RUNNING ? model[5] : 0.0f;
     state.half_ticks = numbers[1];
@@ -264,10 +288,109 @@ static inline identify_state identify_status(const identify_probe *probe)
     return state;
 }
 
+/* Where the probe stands. */
+static inline identify_state identify_status(const identify_probe *probe)
+{
+    uint32_t numbers[5];
+    float model[6], plain[2];
+    identify_live_status(probe->words, probe->floats, numbers, model, plain);
+    return identify_state_of(numbers, model, plain);
+}
+
 /* The probe's report, as identify_byte_run writes it. */
 static inline void identify_report(const identify_probe *probe, uint8_t report[36])
 {
     identify_live_report(probe->words, probe->floats, probe->rates, probe->held, report, 36);
+}
+
+/* ---- Two axes in flight
+ *
+ * A pair is two probes, one for each axis, that the caller opens with one configuration and steps with one dt. Offsets and
+ * report are those of identify_two_axis_run over the same calls; only the bits of a NaN offset may differ. What is said above
+ * of a probe in flight holds for a pair too: who owns the memory, how long a step takes, and what a struct that nobody opened
+ * answers. A step at which the fits fall due makes those of both axes. These functions need libpair.a alone. README.md has the
+ * lines that an autopilot needs, and examples/two_axis.c flies made airframes with them.
+ */
+
+/* The size of a pair, in bytes. */
+#define IDENTIFY_PAIR_SIZE 53424
+
+/* A pair. Its axes are the library's to write. */
+typedef struct identify_pair {
+    identify_probe first;       /* starts high */
+    identify_probe second;      /* starts low */
+} identify_pair;
+
+/* An array of no valid size, and so an error, where the compiler lays a pair out otherwise. */
+typedef char identify_pair_has_its_size[sizeof(identify_pair) == IDENTIFY_PAIR_SIZE ? 1 : -1];
+
+/* The library's side of the functions below, which hand the parts of both probes over in full. A caller in another language
+ * does the same, with identify_live_pair_ready before each step. An axis's status takes that axis's parts.
+ */
+uint32_t identify_live_pair_open(uint32_t words1[8], float floats1[14], uint32_t words2[8], float floats2[14], float amplitude,
+                                 float duration_s, float washout_tc_s, uint32_t extension, float extension_amplitude,
+                                 float extension_duration_s, uint32_t options);
+void identify_live_pair_ready(const uint32_t words1[8], const float floats1[14], uint8_t held1[IDENTIFY_SAMPLES],
+                              const uint32_t words2[8], const float floats2[14], uint8_t held2[IDENTIFY_SAMPLES], float dt);
+uint32_t identify_live_pair_step(uint32_t words1[8], float floats1[14], float rates1[IDENTIFY_SAMPLES],
+                                 float moments1[IDENTIFY_SAMPLES], float offsets1[IDENTIFY_SAMPLES],
+                                 uint8_t held1[IDENTIFY_SAMPLES], uint32_t words2[8], float floats2[14],
+                                 float rates2[IDENTIFY_SAMPLES], float moments2[IDENTIFY_SAMPLES],
+                                 float offsets2[IDENTIFY_SAMPLES], uint8_t held2[IDENTIFY_SAMPLES], float dt, float rate1,
+                                 float moment1, float rate2, float moment2, float *offset1, float *offset2);
+void identify_live_pair_status(const uint32_t words[8], const float floats[14], uint32_t numbers[5], float model[6],
+                               float plain[2]);
+void identify_live_pair_report(const uint32_t words1[8], const float floats1[14], const float rates1[IDENTIFY_SAMPLES],
+                               const uint8_t held1[IDENTIFY_SAMPLES], const uint32_t words2[8], const float floats2[14],
+                               const float rates2[IDENTIFY_SAMPLES], const uint8_t held2[IDENTIFY_SAMPLES], uint8_t *output,
+                               size_t output_len);
+
+/* Opens a pair: one that nobody has used, or one to start anew. Both axes take the same configuration. The struct may hold
+ * anything before. `options` is 0: no bit of it has a meaning yet.
+ *
+ * Answers 0, or a number, and then nothing is written: 9 where options is not 0, or 1 to 5.
+ */
+static inline uint32_t identify_pair_open(identify_pair *pair, const identify_config *config, uint32_t options)
+{
+    return identify_live_pair_open(pair->first.words, pair->first.floats, pair->second.words, pair->second.floats,
+                                   config->amplitude, config->duration_s, config->washout_tc_s, config->extension,
+                                   config->extension_amplitude, config->extension_duration_s, options);
+}
+
+/* One tick of both axes: the seconds since the last one, then of each axis its rate now in rad/s and the moment commanded on
+ * the last tick. A rate or a moment that is not finite is a lost reading of its axis: the one before stands in its place.
+ *
+ * Answers 0 and writes the offsets to add to the two rate setpoints, both 0 once the pair has ended. Both axes end in the same
+ * call. Where either window reads noisy at the duration, both go on into the extension. Or answers 6, 7 or 8: then pair and
+ * offsets are as they were, and neither axis counts a tick.
+ */
+static inline uint32_t identify_pair_step(identify_pair *pair, float dt, float rate1, float moment1, float rate2, float moment2,
+                                          float *offset1, float *offset2)
+{
+    identify_probe *const first = &pair->first, *const second = &pair->second;
+    /* As for one probe: marks of 0 and 1 before a call that reads them. */
+    identify_live_pair_ready(first->words, first->floats, first->held, second->words, second->floats, second->held, dt);
+    return identify_live_pair_step(first->words, first->floats, first->rates, first->moments, first->offsets, first->held,
+                                   second->words, second->floats, second->rates, second->moments, second->offsets,
+                                   second->held, dt, rate1, moment1, rate2, moment2, offset1, offset2);
+}
+
+/* Where one axis of a pair stands: identify_axis_status(&pair.first) or identify_axis_status(&pair.second). Both run, or both
+ * have ended; once they have, one may be done and the other not.
+ */
+static inline identify_state identify_axis_status(const identify_probe *axis)
+{
+    uint32_t numbers[5];
+    float model[6], plain[2];
+    identify_live_pair_status(axis->words, axis->floats, numbers, model, plain);
+    return identify_state_of(numbers, model, plain);
+}
+
+/* The pair's report, as identify_two_axis_run writes it. */
+static inline void identify_pair_report(const identify_pair *pair, uint8_t report[77])
+{
+    identify_live_pair_report(pair->first.words, pair->first.floats, pair->first.rates, pair->first.held, pair->second.words,
+                              pair->second.floats, pair->second.rates, pair->second.held, report, 77);
 }
 
 /* ---- The thread's arithmetic */

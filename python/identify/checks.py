@@ -278,6 +278,8 @@ LOG_CHECKS: dict[str, Callable[[Flight], str | None]] = {
     "window-full": window_full,
 }
 """The warnings about a log, by their codes."""
+CLOCK_CODES = {"dt-units", "uneven-dt", "turned-back", "window-full"}
+"""Those that hang on dt and on the calls alone: both axes of a flight have them, or neither."""
 MODEL_CHECKS: dict[str, Callable[[Flight], str | None]] = {
     "few-rows": few_rows,
     "delay-first": delay_first,

@@ -6,24 +6,36 @@ import signal
 from collections.abc import Sequence
 from typing import NoReturn
 
-from . import picture, words
+from . import picture, two_axis_words, words
 from .checks import dt_units, find_warnings
+from .columns import USUAL, BadColumns, parse_columns
 from .flight import Flight
 from .library import LibraryError
-from .log import BadLog, read_log
+from .log import BadLog, Log, read_any_log
 from .output import OutputError, complain, write
 from .probe import run
 from .records import RULES, Config, ConfigRefused, Extension
+from .two_axis import TwoAxisFlight, find_two_axis_warnings
 
 GOOD, DOUBTFUL, BAD_INPUT, NO_LIBRARY = 0, 1, 2, 3
 INTERRUPTED, CLOSED_PIPE = 128 + signal.SIGINT, 128 + signal.SIGPIPE
 """As a shell tells of a program that a signal ended."""
 
-DESCRIPTION = "Fits how strongly, and how many ticks later, a drone's axis follows its moment, from the log of one probe."
+DESCRIPTION = "Fits how strongly, and how many ticks later, a drone's axis, or each of two, follows its moment, from a log."
 EPILOG = """\
 FLIGHT.csv has a header line and the columns dt (s), rate (rad/s, at this tick) and moment (commanded on the last tick, the
 limit is 1), in any order; other columns are passed over; nan and inf are allowed. Its first line is the first tick of the
 excitation. The values of the options are defaults of this command; give those that the aircraft flew with.
+
+A flight of two axes has the columns dt, rate1, moment1, rate2 and moment2, and neither rate nor moment. Columns with other
+names are given by --columns, one KEY=COLUMN for each that differs; the keys are the usual names:
+
+  --columns rate=roll_rate,moment=roll_moment
+  --columns rate1=roll_rate,moment1=roll_moment,rate2=pitch_rate,moment2=pitch_moment
+
+With a key of two axes there are two, and then rate and moment are rate1 and moment1. An axis is called by its rate's column,
+or axis 1 and axis 2 by the usual names. Axis 1 is the one whose square wave starts high. Both are flown with one
+configuration, take the extension together where either window is noisy, and end together.
 
 Of a model, the delay is the time until the axis begins to follow a moment, the lag the time constant with which it then
 follows, and the push its acceleration for a moment of 1 once the lag has settled. The pole is minus the second rate weight;
@@ -33,10 +45,10 @@ The line `fit` tells how much of the rate's change the model explains when it is
 the gyro's noise takes of it, and what the model explains two ticks earlier and later. A line `warning` tells what makes the
 answer doubtful, and what to do.
 
-Exit status: 0 where a report was printed, however the probe ended; with --strict 1 for all but a model without a warning; 2
-for bad input, and where the answer or the picture cannot be written; 3 where the library cannot be built or loaded. The
-first use builds the library with rt and cc; the variable IDENTIFY_LIBRARY names a ready libexports.a or libidentify.so, and
-then nothing is built from sources."""
+Exit status: 0 where a report was printed, however the probe ended; with --strict 1 for all but a model without a warning, of
+two axes for all but two such models; 2 for bad input, and where the answer or the picture cannot be written; 3 where the
+library cannot be built or loaded. The first use builds the library with rt and cc; the variable IDENTIFY_LIBRARY names a
+ready libexports.a, for two axes with libpair.a beside it, or a libidentify.so, and then nothing is built from sources."""
 
 OPTIONS_OF_RULE = {
     1: ("amplitude",),
@@ -64,6 +76,7 @@ def make_parser() -> Parser:
     plain, extension = Config(), Extension()
     parser = Parser("identify", None, DESCRIPTION, EPILOG, formatter_class=argparse.RawDescriptionHelpFormatter)
     parser.add_argument("flight", metavar="FLIGHT.csv", help="the log; - is standard input")
+    parser.add_argument("--columns", metavar="KEY=COLUMN,...", help="the log's columns that have other names, see below")
     add_number(parser, "--amplitude", "RADPS", "height of the square wave", plain.amplitude)
     add_number(parser, "--duration", "S", "length of the excitation", plain.duration_s)
     add_number(parser, "--washout", "S", "time constant with which an edge decays", plain.washout_tc_s)
@@ -147,30 +160,56 @@ def run_command(arguments: Sequence[str] | None) -> int:
     try:
         if options.plot:
             picture.check_name(options.plot)
-        flight = identify_flight(options.flight, config)
-        found = find_warnings(flight)
-        write((words.as_json if options.json else words.text)(flight, found))
-        if options.plot:
-            picture.draw(options.plot, flight, found)
-        return DOUBTFUL if options.strict and (found or not flight.report.model) else GOOD
+        columns = USUAL if options.columns is None else parse_columns(options.columns)
+        logs = read_any_log(options.flight, columns)
+        is_good = answer_one(*logs, config, options) if len(logs) == 1 else answer_two(logs, config, options)
+        return DOUBTFUL if options.strict and not is_good else GOOD
     except ConfigRefused as refused:
         return complain(refusal_words(refused, config, options), BAD_INPUT)
+    except BadColumns as error:
+        return complain(f"--columns: {error}", BAD_INPUT)
     except (BadLog, picture.PictureError) as error:
         return complain(str(error), BAD_INPUT)
     except LibraryError as error:
         return complain(str(error), NO_LIBRARY)
 
 
-def identify_flight(path: str, config: Config) -> Flight:
-    """Reads the log and runs the probe. Raises BadLog where no line of it is a call."""
-    log = read_log(path)
+def answer_one(log: Log, config: Config, options: argparse.Namespace) -> bool:
+    """Prints and draws a flight of one axis; answers whether it has a model without a warning."""
+    check_lines(log)
+    flight = Flight(log, config, run(config, log.dt, log.rate, log.moment))
+    check_taken(flight)
+    found = find_warnings(flight)
+    write((words.as_json if options.json else words.text)(flight, found))
+    if options.plot:
+        picture.draw(options.plot, flight, found)
+    return flight.report.model is not None and not found
+
+
+def answer_two(logs: Sequence[Log], config: Config, options: argparse.Namespace) -> bool:
+    """Prints and draws a flight of two axes; answers whether both have a model without a warning."""
+    check_lines(logs[0])
+    flight = TwoAxisFlight.of(logs, config)
+    check_taken(flight.axes[0])
+    found = find_two_axis_warnings(flight)
+    write((two_axis_words.as_json if options.json else two_axis_words.text)(flight, found))
+    if options.plot:
+        picture.draw_two_axes(options.plot, flight, found)
+    return all(report.model for report in flight.report.axes) and not found
+
+
+def check_lines(log: Log) -> None:
+    """Raises BadLog where no line of the log is a call."""
     if not log.lines:
         raise BadLog(f"{log.name}: a header line and no line below it; each line below the header is one tick")
-    flight = Flight(log, config, run(config, log.dt, log.rate, log.moment))
+
+
+def check_taken(flight: Flight) -> None:
+    """Raises BadLog where the probe took no call."""
+    log = flight.log
     if flight.report.ticks == 0:
         first = flight.report.refusals[0]
         raise BadLog(
             f"{log.name}:{log.lines[first.call]}: none of {len(log.lines)} calls was accepted; the first breaks rule "
             f"{first.rule}, {RULES[first.rule]}. {dt_units(flight) or 'dt is the time since the last tick, in s.'}"
         )
-    return flight

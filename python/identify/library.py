@@ -3,7 +3,8 @@
 The shared object stands in target/identify/ beside a digest of the sources that it was built from, and is used again while
 theirs is the same, whatever the files' dates are. Where it is not and there is no rt, what is there is used, and a line says
 so. The variable IDENTIFY_LIBRARY names a ready static or shared library (.a or .so) instead; then nothing is built from
-sources.
+sources. The functions of one axis come from libexports.a, those of two from libpair.a, which is taken in where it stands
+beside the first.
 """
 from __future__ import annotations
 
@@ -14,7 +15,7 @@ import os
 import shutil
 import subprocess
 import tempfile
-from collections.abc import Iterator, Sequence
+from collections.abc import Callable, Iterator, Sequence
 from pathlib import Path
 
 from .output import note, say
@@ -22,14 +23,18 @@ from .output import note, say
 ROOT = Path(__file__).resolve().parents[2]
 VARIABLE = "IDENTIFY_LIBRARY"
 READY_INSTEAD = f"set {VARIABLE} to a ready libexports.a or libidentify.so"
-BUILD_COMMAND = ("rt", "staticlib", "exports")
+PROVER = "rt"
+BUILD_COMMANDS = ((PROVER, "staticlib", "exports"), (PROVER, "staticlib", "pair"))
 ARCHIVE = Path("target/staticlib/libexports.a")
+PAIR = "libpair.a"
 SHARED = Path("target/identify/libidentify.so")
 DIGEST = Path("target/identify/sources.sha256")
 UNBUILT_FOLDERS = {"must-fail", "data"}
 """Folders of the crates that a build does not read."""
 FUNCTIONS = {"identify_byte_run": 3, "identify_plain_units": 2}
-"""The exported functions, and how many buffers each takes: a pointer and a length for each."""
+"""The functions of one axis, and how many buffers each takes: a pointer and a length for each."""
+TWO_AXIS_RUN, TWO_AXIS_BUFFERS = "identify_two_axis_run", 3
+"""The function of two axes, which a library may lack."""
 
 
 class LibraryError(RuntimeError):
@@ -46,6 +51,25 @@ def load() -> ctypes.CDLL:
     if not path.is_file():
         raise LibraryError(f"{VARIABLE} names {named}: no such file")
     return open_library(path)
+
+
+def two_axis_run() -> Callable[..., int]:
+    """The function of two axes. Raises LibraryError where the library lacks it."""
+    try:
+        return declared(load(), TWO_AXIS_RUN, TWO_AXIS_BUFFERS)
+    except AttributeError as error:
+        raise LibraryError(
+            f"the library has no function {TWO_AXIS_RUN}, which two axes need; set {VARIABLE} to a ready {ARCHIVE.name} with "
+            f"{PAIR} beside it, or to a {SHARED.name} made of both"
+        ) from error
+
+
+def declared(library: ctypes.CDLL, name: str, buffers: int) -> Callable[..., int]:
+    """A function of the library with its types set. Raises AttributeError where the library lacks it."""
+    function = getattr(library, name)
+    function.argtypes = [ctypes.c_char_p, ctypes.c_size_t] * buffers
+    function.restype = ctypes.c_uint32
+    return function
 
 
 def open_library(path: Path) -> ctypes.CDLL:
@@ -69,9 +93,7 @@ def open_shared(path: Path) -> ctypes.CDLL:
     try:
         library = ctypes.CDLL(str(path))
         for name, buffers in FUNCTIONS.items():
-            function = getattr(library, name)
-            function.argtypes = [ctypes.c_char_p, ctypes.c_size_t] * buffers
-            function.restype = ctypes.c_uint32
+            declared(library, name, buffers)
     except (OSError, AttributeError) as error:
         raise LibraryError(f"{path}: {error}") from error
     return library
@@ -112,7 +134,7 @@ def sources(root: Path) -> Iterator[Path]:
 
 def can_build(root: Path) -> bool:
     """Whether the sources and their prover are there."""
-    return (root / "crates").is_dir() and shutil.which(BUILD_COMMAND[0]) is not None
+    return (root / "crates").is_dir() and shutil.which(PROVER) is not None
 
 
 def build(root: Path) -> Path:
@@ -122,9 +144,11 @@ def build(root: Path) -> Path:
     shared.parent.mkdir(parents=True, exist_ok=True)
     # The folder is made first: one that cannot be written is known before the long build.
     with tempfile.TemporaryDirectory(dir=shared.parent) as folder:
-        say(f"building the proved library ({' '.join(BUILD_COMMAND)}, then cc); the first time takes minutes")
+        steps = ", ".join(" ".join(words) for words in BUILD_COMMANDS)
+        say(f"building the proved library ({steps}, then cc); the first time takes minutes")
         read = digest(root)
-        command(BUILD_COMMAND, root)
+        for words in BUILD_COMMANDS:
+            command(words, root)
         fresh = Path(folder) / shared.name
         link(root / ARCHIVE, fresh)
         (root / DIGEST).unlink(missing_ok=True)
@@ -135,7 +159,7 @@ def build(root: Path) -> Path:
 
 def left_there(root: Path) -> Path:
     """The library of an earlier build, where none can be built."""
-    why = f"{BUILD_COMMAND[0]} is not on the PATH" if (root / "crates").is_dir() else f"there is no crates/ in {root}"
+    why = f"{PROVER} is not on the PATH" if (root / "crates").is_dir() else f"there is no crates/ in {root}"
     for path in (SHARED, ARCHIVE):
         if (root / path).is_file():
             say(f"{why}: {path} is used as it is, and may have been built from other sources")
@@ -144,9 +168,10 @@ def left_there(root: Path) -> Path:
 
 
 def link(archive: Path, shared: Path) -> None:
-    """Makes a shared object of a static library."""
-    words = ("cc", "-shared", "-o", str(shared), "-Wl,--whole-archive", str(archive), "-Wl,--no-whole-archive")
-    command(words, archive.parent)
+    """Makes a shared object of a static library and of the one for two axes where that stands beside it."""
+    pair = archive.with_name(PAIR)
+    archives = (str(archive), str(pair)) if pair.is_file() else (str(archive),)
+    command(("cc", "-shared", "-o", str(shared), "-Wl,--whole-archive", *archives, "-Wl,--no-whole-archive"), archive.parent)
 
 
 def command(words: Sequence[str], folder: Path) -> None:

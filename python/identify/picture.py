@@ -1,4 +1,4 @@
-"""Draws a flight: rate with the model run over it, moment, and the probe's offset. Needs matplotlib."""
+"""Draws a flight: rate with the model run over it, moment, and the probe's offset, of each axis. Needs matplotlib."""
 from __future__ import annotations
 
 import importlib.util
@@ -9,12 +9,15 @@ import shutil
 import subprocess
 import sys
 import warnings
-from collections.abc import Iterator, Sequence
+from collections.abc import Callable, Iterator, Sequence
 from pathlib import Path
+from typing import Any
 
 from .checks import Warned
 from .flight import Flight
 from .quality import HORIZON_S, simulated_stretches
+from .two_axis import TwoAxisFlight, TwoAxisWarnings
+from .two_axis_words import heading
 from .window import LIMIT_MOMENT, at_limit, began, held_stretches
 from .words import ENDINGS, delay_words, quality_words
 
@@ -24,6 +27,8 @@ SYSTEM_PYTHON = "/usr/bin/python3"
 """The interpreter for which Debian's package is made."""
 MEASURED, MODEL, MOMENT, OFFSET = "#333333", "#e07b1a", "#1b6ca8", "#2a7f3f"
 LIMIT, HELD, MARK, PALE = "#b3261e", "#c2185b", "#888888", 0.35
+WIDTH, HEIGHT = 10, 6.5
+"""Of one axis's panels, in inches."""
 LEGEND = {"loc": "upper left", "ncols": 5, "edgecolor": "none", "borderpad": 0.1}
 
 
@@ -39,6 +44,16 @@ def check_name(path: str) -> None:
 
 def draw(path: str, flight: Flight, found: Sequence[Warned]) -> None:
     """Writes the picture of a flight, with the codes of its warnings."""
+    save(path, HEIGHT, lambda figure: draw_panels(figure, flight, found))
+
+
+def draw_two_axes(path: str, flight: TwoAxisFlight, found: TwoAxisWarnings) -> None:
+    """Writes the picture of a flight of two axes, one below the other."""
+    save(path, 2 * HEIGHT, lambda figure: draw_axes(figure, flight, found))
+
+
+def save(path: str, height: float, paint: Callable[[Any], None]) -> None:
+    """Writes a picture of this height, in inches, as `paint` draws it on a figure."""
     if importlib.util.find_spec("matplotlib") is None:
         raise PictureError(f"--plot needs matplotlib, which {sys.executable} does not have; {where_matplotlib_is()}")
     try:
@@ -51,8 +66,8 @@ def draw(path: str, flight: Flight, found: Sequence[Warned]) -> None:
     with rc_context({"svg.hashsalt": "identify", "font.size": 9}), warnings.catch_warnings():
         # A file name may have characters that the font lacks; they are drawn as boxes.
         warnings.simplefilter("ignore")
-        figure = Figure(figsize=(10, 6.5), layout="constrained")
-        draw_panels(figure, flight, found)
+        figure = Figure(figsize=(WIDTH, height), layout="constrained")
+        paint(figure)
         figure.savefig(picture, format=kind, dpi=100, metadata={"Date": None} if kind == "svg" else None)
     try:
         Path(path).write_bytes(picture.getvalue())
@@ -79,14 +94,33 @@ def interpreters() -> Iterator[str]:
         yield SYSTEM_PYTHON
 
 
+def draw_axes(figure, flight: TwoAxisFlight, found: TwoAxisWarnings) -> None:
+    """The panels of both axes, under a line about the flight."""
+    words = f"{shown(flight.axes[0].log.name)}: {heading(flight)}{warned_words(found.clock)}"
+    figure.suptitle(words, x=0.01, horizontalalignment="left", fontsize="medium", parse_math=False)
+    panels = make_panels(figure, 2)
+    draw_axis(panels[:3], flight.axes[0], found.axes[0])
+    draw_axis(panels[3:], flight.axes[1], found.axes[1])
+
+
 def draw_panels(figure, flight: Flight, found: Sequence[Warned]) -> None:
-    """Three panels over one time axis."""
-    panels = figure.subplots(3, 1, sharex=True, gridspec_kw={"height_ratios": (3, 2, 1.3)})
+    """The panels of one axis."""
+    draw_axis(make_panels(figure, 1), flight, found)
+
+
+def make_panels(figure, axes: int) -> Sequence[Any]:
+    """Three panels for each axis, all over one time axis."""
+    return figure.subplots(3 * axes, 1, sharex=True, gridspec_kw={"height_ratios": (3, 2, 1.3) * axes})
+
+
+def draw_axis(panels: Sequence[Any], flight: Flight, found: Sequence[Warned]) -> None:
+    """Rate, moment and offset of an axis."""
     draw_rate(panels[0], flight)
     draw_moment(panels[1], flight)
     draw_series(panels[2], flight, [sample.offset for sample in flight.taken], color=OFFSET, linewidth=1)
     panels[2].set_ylabel("offset, rad/s")
     panels[2].set_xlabel("time since the excitation began, s")
+    panels[2].tick_params(labelbottom=True)
     # File names are drawn as they are: a $ in one begins no formula.
     panels[0].set_title(title(flight, found), loc="left", parse_math=False)
     for panel in panels:
@@ -97,15 +131,20 @@ def draw_panels(figure, flight: Flight, found: Sequence[Warned]) -> None:
 
 
 def title(flight: Flight, found: Sequence[Warned]) -> str:
-    """File and ending; then, of a model, its delay and its quality; then the warnings."""
-    words = f"{shown(flight.log.name)}: {ENDINGS[flight.report.ending]}"
+    """File, or axis of a flight of two, and ending; then, of a model, its delay and its quality; then the warnings."""
+    words = f"{shown(flight.log.axis or flight.log.name)}: {ENDINGS[flight.report.ending]}"
     if flight.report.model:
         words += f", delay {delay_words(flight.report.model)}\n{quality_words(flight.quality)}"
-    return words + (f"\nwarnings: {', '.join(warned.code for warned in found)}" if found else "")
+    return words + warned_words(found)
+
+
+def warned_words(found: Sequence[Warned]) -> str:
+    """A line with the codes of warnings."""
+    return f"\nwarnings: {', '.join(warned.code for warned in found)}" if found else ""
 
 
 def shown(name: str) -> str:
-    """A file name with odd bytes and control characters written out."""
+    """A name with odd bytes and control characters written out."""
     text = name.encode("utf8", "surrogateescape").decode("utf8", "backslashreplace")
     return "".join(c if c.isprintable() else c.encode("unicode_escape").decode("ascii") for c in text)
 

@@ -3,12 +3,13 @@ from __future__ import annotations
 
 import ctypes
 import sys
-from collections.abc import Sequence
+from collections.abc import Callable, Sequence
 
 from . import library
-from .records import Config, ConfigRefused, Report
+from .records import Config, ConfigRefused, Report, TwoAxisReport
 from .wire import (
-    CALL_BYTES, OFFSET_BYTES, REPORT_BYTES, UNITS_BYTES, pack_calls, pack_config, unpack_report, unpack_units,
+    CALL_BYTES, OFFSET_BYTES, REPORT_BYTES, TWO_AXIS_CALL_BYTES, TWO_AXIS_REPORT_BYTES, UNITS_BYTES, pack_calls, pack_config,
+    pack_two_axis_calls, unpack_report, unpack_two_axis_report, unpack_units,
 )
 
 
@@ -32,9 +33,41 @@ def run_bytes(config: bytes, calls: bytes) -> bytes:
 
     Raises ConfigRefused with the number that the library answered where it is not 0.
     """
-    function = library.load().identify_byte_run
+    length = REPORT_BYTES + OFFSET_BYTES * (len(calls) // CALL_BYTES)
+    return filled(library.load().identify_byte_run, config, calls, length)
+
+
+def run_two_axis(
+    config: Config, dt: Sequence[float], rate1: Sequence[float], moment1: Sequence[float], rate2: Sequence[float],
+    moment2: Sequence[float],
+) -> TwoAxisReport:
+    """Runs a pair of probes of one configuration over a flight of two axes and reports how each ended.
+
+    One call a tick, as for `run`, with the readings of both axes. Where either window reads noisy at the configuration's
+    duration, both axes take the extension; both end in the same call. A call that breaks one of the rules 6 to 8 is turned
+    back for both, and stands in the `refusals` of both reports.
+
+    Raises what `run` raises, and LibraryError too where the library has no function for two axes.
+    """
+    output = run_two_axis_bytes(pack_config(config), pack_two_axis_calls(dt, rate1, moment1, rate2, moment2))
+    reports = (output[:REPORT_BYTES], output[REPORT_BYTES : 2 * REPORT_BYTES])
+    return unpack_two_axis_report(output, [plain_units(report) for report in reports])
+
+
+def run_two_axis_bytes(config: bytes, calls: bytes) -> bytes:
+    """Runs `identify_two_axis_run` as include/identify.h describes it and returns the output: the report of the pair, then
+    two offsets a call.
+
+    Raises ConfigRefused with the number that the library answered where it is not 0.
+    """
+    length = TWO_AXIS_REPORT_BYTES + 2 * OFFSET_BYTES * (len(calls) // TWO_AXIS_CALL_BYTES)
+    return filled(library.two_axis_run(), config, calls, length)
+
+
+def filled(function: Callable[..., int], config: bytes, calls: bytes, length: int) -> bytes:
+    """The output of this length that a run over bytes has filled."""
     check_float_mode()
-    output = ctypes.create_string_buffer(REPORT_BYTES + OFFSET_BYTES * (len(calls) // CALL_BYTES))
+    output = ctypes.create_string_buffer(length)
     answer = function(config, len(config), calls, len(calls), output, len(output))
     if answer != 0:
         raise ConfigRefused(answer)

@@ -13,7 +13,7 @@ RULES = {
     6: "dt not positive and finite",
     7: "still running, and elapsed time + dt above 4,096 s",
     8: "still running, with 16,777,216 ticks",
-    9: "configuration not 24 bytes, calls not a multiple of 12, or output too short",
+    9: "configuration not 24 bytes, calls not a multiple of 12 (of two axes: of 20), or output too short",
 }
 """The rules by which the library turns back a configuration (1 to 5), a call (6 to 8) or a byte run (9)."""
 
@@ -135,3 +135,24 @@ class Report:
     """The calls that were turned back."""
     raw: bytes = field(default=b"", repr=False)
     """The 36 bytes of the library's report."""
+
+
+@dataclass(frozen=True)
+class TwoAxisReport:
+    """What one run of two axes gave. Both axes take and turn back the same calls, and end in the same one."""
+
+    first: Report
+    """Axis 1, whose square wave starts high."""
+    second: Report
+    """Axis 2, whose square wave starts low."""
+    ticks: int
+    """The ticks of both axes added up."""
+    rows: int
+    """The rows of both axes added up."""
+    raw: bytes = field(default=b"", repr=False)
+    """The 77 bytes of the library's report."""
+
+    @property
+    def axes(self) -> tuple[Report, Report]:
+        """Both reports, in order."""
+        return self.first, self.second

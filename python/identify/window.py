@@ -85,7 +85,8 @@ def held_stretches(samples: Sequence[Sample]) -> list[tuple[int, int]]:
 
 
 def extension_taken(config: Config, dt: Sequence[float], report: Report) -> bool:
-    """Whether the probe found the window noisy at the configuration's duration and went on past it."""
+    """Whether the probe went on past the configuration's duration: a window read noisy then, its own or that of its pair's
+    other axis."""
     duration_s = singles([config.duration_s])[0]
     elapsed_s = 0.0
     for tick, call in enumerate(taken_calls(report), start=1):

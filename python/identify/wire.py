@@ -7,10 +7,12 @@ import sys
 from array import array
 from collections.abc import Iterable, Sequence
 
-from .records import Config, Ending, Extension, Model, Refusal, Report
+from .records import Config, Ending, Extension, Model, Refusal, Report, TwoAxisReport
 
 CALL_BYTES = 12
+TWO_AXIS_CALL_BYTES = 20
 REPORT_BYTES = 36
+TWO_AXIS_REPORT_BYTES = 77
 UNITS_BYTES = 12
 OFFSET_BYTES = 4
 NAN_WORD = 0x7FC00000
@@ -21,6 +23,8 @@ REPORT_BITS = (
     ("rows", 12), ("gain_fits", 12), ("end", 3),
 )
 """The first 12 bytes of the report: names and widths, most significant bit first."""
+SUM_BITS = (("ticks", 26), ("rows", 13), ("end", 1))
+"""The last 5 bytes of the report of two axes: both axes' numbers added up."""
 
 
 def singles(values: Iterable[float]) -> array:
@@ -49,16 +53,35 @@ def pack_config(config: Config) -> bytes:
 
 def pack_calls(dt: Sequence[float], rate: Sequence[float], moment: Sequence[float]) -> bytes:
     """Twelve bytes a call. The three sequences have one length."""
-    if not len(dt) == len(rate) == len(moment):
-        raise ValueError(f"dt, rate and moment differ in length: {len(dt)}, {len(rate)} and {len(moment)}")
-    return pack_floats(value for call in zip(dt, rate, moment) for value in call)
+    return pack_columns(dt=dt, rate=rate, moment=moment)
 
 
-def split_bits(head: bytes) -> dict[str, int]:
-    """The whole numbers of the report, by name."""
+def pack_two_axis_calls(
+    dt: Sequence[float], rate1: Sequence[float], moment1: Sequence[float], rate2: Sequence[float], moment2: Sequence[float]
+) -> bytes:
+    """Twenty bytes a call. The five sequences have one length."""
+    return pack_columns(dt=dt, rate1=rate1, moment1=moment1, rate2=rate2, moment2=moment2)
+
+
+def pack_columns(**columns: Sequence[float]) -> bytes:
+    """One value of each column a call. Raises ValueError where the columns differ in length."""
+    lengths = [len(column) for column in columns.values()]
+    if len(set(lengths)) > 1:
+        raise ValueError(f"{listed(columns)} differ in length: {listed(lengths)}")
+    return pack_floats(value for call in zip(*columns.values()) for value in call)
+
+
+def listed(values: Iterable[object]) -> str:
+    """Two values or more in words: a, b and c."""
+    *others, last = map(str, values)
+    return f"{', '.join(others)} and {last}"
+
+
+def split_bits(head: bytes, layout: Sequence[tuple[str, int]] = REPORT_BITS) -> dict[str, int]:
+    """The whole numbers of a report's part, by name."""
     bits = int.from_bytes(head, "big")
     fields: dict[str, int] = {}
-    for name, width in reversed(REPORT_BITS):
+    for name, width in reversed(layout):
         fields[name] = bits & ((1 << width) - 1)
         bits >>= width
     return fields
@@ -85,6 +108,20 @@ def unpack_report(output: bytes, units: tuple[float, float] | None) -> Report:
         refusals=refusals,
         raw=output[:REPORT_BYTES],
     )
+
+
+def unpack_two_axis_report(output: bytes, units: Sequence[tuple[float, float] | None]) -> TwoAxisReport:
+    """The report and the offsets of a finished run of two axes, with each model's lag and push."""
+    first, second = (unpack_report(axis_output(output, axis), units[axis]) for axis in (0, 1))
+    sums = split_bits(output[2 * REPORT_BYTES : TWO_AXIS_REPORT_BYTES], SUM_BITS)
+    return TwoAxisReport(first, second, sums["ticks"], sums["rows"], output[:TWO_AXIS_REPORT_BYTES])
+
+
+def axis_output(output: bytes, axis: int) -> bytes:
+    """What a run of two axes wrote for one of them, as a run of that axis has it: its report, then its offsets."""
+    offsets = range(TWO_AXIS_REPORT_BYTES + OFFSET_BYTES * axis, len(output), 2 * OFFSET_BYTES)
+    report = output[REPORT_BYTES * axis : REPORT_BYTES * (axis + 1)]
+    return report + b"".join(output[place : place + OFFSET_BYTES] for place in offsets)
 
 
 def unpack_model(fields: dict[str, int], floats: tuple[float, ...], units: tuple[float, float] | None) -> Model:

@@ -5,6 +5,7 @@ import json
 import math
 import textwrap
 from collections import Counter
+from collections.abc import Sequence
 from dataclasses import asdict
 from typing import Any
 
@@ -24,17 +25,30 @@ ENDINGS = {Ending.RUNNING: "running", Ending.DONE: "done", Ending.UNEXCITED: "un
 
 def text(flight: Flight, found: list[Warned]) -> str:
     """The report for a person, with a newline at the end."""
-    lines = [f"{flight.log.name}: {ending_words(flight)}"]
-    why = reason(flight)
-    if why:
-        lines += textwrap.wrap(why, WIDTH, initial_indent="  ", subsequent_indent="  ", break_on_hyphens=False)
-    lines += [row("warning", warned.text) for warned in found]
-    if flight.report.model:
-        lines += model_lines(flight.report.model, flight.quality)
-    lines.append(row("counts", counts_words(flight.report)))
+    lines = [f"{flight.log.name}: {ending_words(flight, window_words(flight))}"]
+    lines += reason_lines(reason(flight))
+    lines += axis_lines(flight, found)
     lines.append(row("calls", calls_words(flight)))
     lines += refusal_lines(flight)
     return "\n".join(lines) + "\n"
+
+
+def reason_lines(why: str | None) -> list[str]:
+    """A reason, broken into lines."""
+    return textwrap.wrap(why or "", WIDTH, initial_indent="  ", subsequent_indent="  ", break_on_hyphens=False)
+
+
+def axis_lines(flight: Flight, found: Sequence[Warned]) -> list[str]:
+    """What there is to say of one axis: warnings, model and counts."""
+    lines = warning_lines(found)
+    if flight.report.model:
+        lines += model_lines(flight.report.model, flight.quality)
+    return [*lines, row("counts", counts_words(flight.report))]
+
+
+def warning_lines(found: Sequence[Warned]) -> list[str]:
+    """A line for each warning."""
+    return [row("warning", warned.text) for warned in found]
 
 
 def row(name: str, value: str) -> str:
@@ -42,15 +56,15 @@ def row(name: str, value: str) -> str:
     return f"  {name:<15} {value}"
 
 
-def ending_words(flight: Flight) -> str:
-    """How the probe ended, in a line."""
+def ending_words(flight: Flight, window: str = "") -> str:
+    """How the probe ended, in a line; of a model with these words about its window."""
     report = flight.report
     if report.ending is Ending.RUNNING:
         return "still running, no model"
     if report.model is None:
         return f"gave up: {ENDINGS[report.ending]}"
     fit = "integrated fit (a noisy" if report.model.integrated else "fit on the recorded rates (a quiet"
-    return f"done, by the {fit} window{window_words(flight)})"
+    return f"done, by the {fit} window{window})"
 
 
 def window_words(flight: Flight) -> str:
@@ -152,10 +166,15 @@ def refusal_lines(flight: Flight) -> list[str]:
 
 def as_json(flight: Flight, found: list[Warned]) -> str:
     """The report as one JSON object, with a newline at the end. A number that is not finite is null."""
-    return json.dumps(finite(as_dict(flight, found)), indent=2, allow_nan=False) + "\n"
+    return json_text(as_dict(flight, found))
 
 
-def as_dict(flight: Flight, found: list[Warned]) -> dict[str, Any]:
+def json_text(values: dict[str, Any]) -> str:
+    """Plain values as JSON, with a newline at the end. A number that is not finite is null."""
+    return json.dumps(finite(values), indent=2, allow_nan=False) + "\n"
+
+
+def as_dict(flight: Flight, found: Sequence[Warned]) -> dict[str, Any]:
     """The report as plain values."""
     log, report = flight.log, flight.report
     return {

@@ -21,17 +21,39 @@ sys.path.insert(0, str(DEMO))
 import make_flights
 
 NOISY = next(flight for flight in make_flights.FLIGHTS if flight.name == "noisy")
+ROLL_PITCH = DEMO / "roll_pitch.csv"
+ROLL_PITCH_COLUMNS = {"rate1": "roll_rate", "moment1": "roll_moment", "rate2": "pitch_rate", "moment2": "pitch_moment"}
+TWO_AXES = ("dt", "rate1", "moment1", "rate2", "moment2")
 DOUBTS = {"no-lag", "unchecked", "explains-little", "delay-off"}
 """The warnings that stand on how the model holds."""
 
 Columns = tuple[list[float], list[float], list[float]]
 """dt, rate and moment."""
+TwoAxisColumns = tuple[list[float], list[float], list[float], list[float], list[float]]
+"""dt, and rate and moment of each axis."""
 
 
 def demo_columns(name: str) -> Columns:
     """A flight of the demo. The answer of `noisy` is 3.5 ticks, 14 ms."""
     log = identify.read_log(DEMO / f"{name}.csv")
     return log.dt, log.rate, log.moment
+
+
+def roll_pitch() -> TwoAxisColumns:
+    """The demo's flight of two axes. Only pitch asks for the extension; the answers are 2 and 4.5 ticks."""
+    roll, pitch = identify.read_two_axis_log(ROLL_PITCH, ROLL_PITCH_COLUMNS)
+    return roll.dt, roll.rate, roll.moment, pitch.rate, pitch.moment
+
+
+def paired(first: Columns, second: Columns) -> TwoAxisColumns:
+    """Two flights as two axes, as long as the shorter one, with the first one's clock."""
+    length = min(len(first[0]), len(second[0]))
+    return tuple(column[:length] for column in (*first, *second[1:]))
+
+
+def lengthened(columns: Columns, ticks: int) -> Columns:
+    """A flight of more ticks: its readings come again from the start."""
+    return tuple((column * (ticks // len(column) + 1))[:ticks] for column in columns)
 
 
 def flown(flight: make_flights.Flight) -> Columns:

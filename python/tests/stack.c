@@ -1,22 +1,8 @@
-/* The stack that the header's live functions take, for test_live.py. The input is a configuration and calls, as
- * identify_byte_run takes them; the last call is the one to look at.
- *
- *     stack measure        a line each: a name, and the bytes that the function takes on a painted stack
- *     stack exact BYTES    makes the last call in a thread that has this much stack for it, and no page after it
- *
- * Both count from the stack pointer at the call. What the calling thread itself has used by then is found by a call that does
- * nothing but look where its own frame begins.
- */
+/* The stack that the functions of a probe in flight take, for test_live.py: see stack.h. */
 #define _DEFAULT_SOURCE
 #include "identify.h"
-#include <pthread.h>
-#include <stdio.h>
-#include <stdlib.h>
-#include <string.h>
-#include <sys/mman.h>
-#include <ucontext.h>
 
-enum { PAGE = 4096, GUARD = 64 * PAGE, LARGE = 1 << 20, ALIGNMENT = 64, CALL = 12, CONFIG = 24, MOST_CALLS = 4000 };
+enum { CALL = 12 };
 
 typedef struct last_call {
     identify_config config;
@@ -27,35 +13,16 @@ typedef struct last_call {
     const uint8_t *stack_pointer;
 } last_call;
 
-typedef void looked_at(last_call *it);
+#include "stack.h"
 
-static last_call it;
-static looked_at *volatile look;
-
-static void must(int so, const char *what)
+static void step_last(last_call *call)
 {
-    if (!so) {
-        fprintf(stderr, "not so: %s\n", what);
-        exit(1);
-    }
-}
-
-/* ---- what is looked at */
-
-/* A frame's address lies below what the caller pushed: the return address and the last frame's address. */
-static void nothing(last_call *call)
-{
-    call->stack_pointer = (const uint8_t *)__builtin_frame_address(0) + 16;
+    identify_step(&call->probe, call->dt, call->rate, call->moment, &call->offset);
 }
 
 static void open_probe(last_call *call)
 {
     identify_open(&call->probe, &call->config, 0);
-}
-
-static void step_probe(last_call *call)
-{
-    identify_step(&call->probe, call->dt, call->rate, call->moment, &call->offset);
 }
 
 static void status_of_probe(last_call *call)
@@ -68,31 +35,22 @@ static void report_of_probe(last_call *call)
     identify_report(&call->probe, call->report);
 }
 
-/* ---- the flight */
-
-static float float_at(const uint8_t *at)
+static const named *others_measured(void)
 {
-    const uint32_t word = (uint32_t)at[0] << 24 | (uint32_t)at[1] << 16 | (uint32_t)at[2] << 8 | at[3];
-    float x;
-    memcpy(&x, &word, 4);
-    return x;
+    static const named all[] = {{"status", status_of_probe}, {"report", report_of_probe}, {"open", open_probe}, {NULL, NULL}};
+    return all;
 }
 
-/* Flies all calls but the last one. */
 static void fly(void)
 {
-    static uint8_t input[CONFIG + CALL * MOST_CALLS];
-    const size_t len = fread(input, 1, sizeof input, stdin);
-    const identify_config config = {float_at(input), float_at(input + 4), float_at(input + 8), input[15], float_at(input + 16),
-                                    float_at(input + 20)};
-    it.config = config;
-    must(identify_open(&it.probe, &config, 0) == 0, "opened");
-    for (const uint8_t *call = input + CONFIG; call < input + len; call += CALL) {
+    it.config = read_input();
+    must(identify_open(&it.probe, &it.config, 0) == 0, "opened");
+    for (const uint8_t *call = input + CONFIG; call < input + input_len; call += CALL) {
         it.dt = float_at(call);
         it.rate = float_at(call + 4);
         it.moment = float_at(call + 8);
-        if (call + CALL < input + len)
-            step_probe(&it);
+        if (call + CALL < input + input_len)
+            step_last(&it);
     }
     must(identify_status(&it.probe).kind == IDENTIFY_RUNNING, "the last call is still to come");
 }
@@ -100,99 +58,4 @@ static void fly(void)
 static void must_be_fitted(void)
 {
     must(identify_status(&it.probe).kind == IDENTIFY_DONE && it.probe.words[4] > 0, "the last call made the integrated fit");
-}
-
-/* ---- a painted stack */
-
-static ucontext_t outside, inside;
-
-static void enter(void)
-{
-    look(&it);
-    swapcontext(&inside, &outside);
-}
-
-/* The bytes below the stack pointer at the call that a call has written. */
-static size_t taken(uint8_t *stack, looked_at *what, int paint)
-{
-    size_t untouched = 0;
-    look = what;
-    memset(stack, paint, LARGE);
-    must(getcontext(&inside) == 0, "a context");
-    inside.uc_stack.ss_sp = stack;
-    inside.uc_stack.ss_size = LARGE;
-    inside.uc_link = &outside;
-    makecontext(&inside, enter, 0);
-    must(swapcontext(&outside, &inside) == 0, "a call on the painted stack");
-    while (untouched < LARGE && stack[untouched] == (uint8_t)paint)
-        untouched++;
-    return (size_t)(it.stack_pointer - (stack + untouched));
-}
-
-/* The greater of two: a byte that is written may have the colour of the paint. */
-static size_t taken_most(uint8_t *stack, looked_at *what)
-{
-    const last_call before = it;
-    const size_t with_one = taken(stack, what, 0xa5);
-    it = before;
-    const size_t with_other = taken(stack, what, 0x5a);
-    return with_one > with_other ? with_one : with_other;
-}
-
-static void measure(void)
-{
-    uint8_t *stack = (uint8_t *)aligned_alloc(PAGE, LARGE);
-    must(stack != NULL, "memory for a stack");
-    taken(stack, nothing, 0);
-    printf("step %zu\n", taken_most(stack, step_probe));
-    must_be_fitted();
-    printf("status %zu\n", taken_most(stack, status_of_probe));
-    printf("report %zu\n", taken_most(stack, report_of_probe));
-    printf("open %zu\n", taken_most(stack, open_probe));
-    free(stack);
-}
-
-/* ---- a thread with so much stack and no more */
-
-static void *in_thread(void *given)
-{
-    look((last_call *)given);
-    return NULL;
-}
-
-/* Makes a call in a thread. Its stack of `size` bytes begins at a page; nobody may touch the pages below. */
-static const uint8_t *call_in_thread(looked_at *what, size_t size)
-{
-    const size_t mapped = GUARD + (size + PAGE - 1) / PAGE * PAGE;
-    uint8_t *pages = (uint8_t *)mmap(NULL, mapped, PROT_NONE, MAP_PRIVATE | MAP_ANONYMOUS, -1, 0);
-    pthread_attr_t attributes;
-    pthread_t thread;
-    look = what;
-    must(pages != MAP_FAILED && mprotect(pages + GUARD, mapped - GUARD, PROT_READ | PROT_WRITE) == 0, "pages");
-    must(pthread_attr_init(&attributes) == 0 && pthread_attr_setstack(&attributes, pages + GUARD, size) == 0, "a stack");
-    must(pthread_create(&thread, &attributes, in_thread, &it) == 0 && pthread_join(thread, NULL) == 0, "a thread");
-    return pages + GUARD + size;
-}
-
-static void call_with(size_t bytes)
-{
-    const uint8_t *end = call_in_thread(nothing, LARGE);
-    const size_t used = (size_t)(end - it.stack_pointer);
-    const size_t size = used + bytes;
-    /* A thread's own data lie at the end of its stack, at a multiple of ALIGNMENT. */
-    call_in_thread(step_probe, (size + ALIGNMENT - 1) / ALIGNMENT * ALIGNMENT);
-    must_be_fitted();
-    puts("done");
-}
-
-int main(int count, char **words)
-{
-    fly();
-    if (count == 2 && strcmp(words[1], "measure") == 0)
-        measure();
-    else if (count == 3 && strcmp(words[1], "exact") == 0)
-        call_with(strtoul(words[2], NULL, 10));
-    else
-        must(0, "a known word");
-    return 0;
 }

@@ -7,17 +7,24 @@ import random
 import subprocess
 import sys
 import unittest
+from collections.abc import Sequence
 from pathlib import Path
 
 ROOT = Path(__file__).resolve().parents[2]
 DEMO = ROOT / "demo"
 HEADER = ROOT / "include/identify.h"
+INCLUDES = (HEADER.parent, ROOT / "examples", ROOT / "python/tests")
+"""Where the sources that the tests compile find their headers."""
 sys.path.insert(0, str(ROOT / "python"))
 
 import identify
 from identify import library
 
 M1_CONFIG = identify.Config(1.0, 1.0, 0.5, None)
+M1_REPORT = "800000020020000020000000" + "00" * 24
+M1_PAIR_OFFSETS = "3F00000000000000" "3E80000000000000" "3E00000000000000" "BEE000003F000000"
+M1_PAIR_OUTPUT = bytes.fromhex(2 * M1_REPORT + "0000020000" + M1_PAIR_OFFSETS)
+"""M1 flown as a pair: both reports, ticks and rows added up, and two offsets a call."""
 POLE = 0.85
 RATE_WEIGHTS = (1 + POLE, -POLE)
 MOMENT_WEIGHTS = (0.02, 0.01, 0.015)
@@ -74,9 +81,9 @@ def at(values: list[float], tick: int) -> float:
     return values[tick] if tick >= 0 else 0.0
 
 
-def log_text(dt: list[float], rate: list[float], moment: list[float]) -> str:
+def log_text(*columns: list[float], names: Sequence[str] = ("dt", "rate", "moment")) -> str:
     """A flight as a log."""
-    return "dt,rate,moment\n" + "".join(",".join(map(repr, call)) + "\n" for call in zip(dt, rate, moment))
+    return ",".join(names) + "\n" + "".join(",".join(map(repr, call)) + "\n" for call in zip(*columns))
 
 
 def byte_library() -> Path:
@@ -85,31 +92,46 @@ def byte_library() -> Path:
     return Path(named).resolve() if named else library.built(ROOT)
 
 
-@functools.cache
 def live_library() -> Path:
-    """The library of a probe in flight, liblive.a: the one that IDENTIFY_LIVE names, or that of the sources, built where it
-    was built from others. A test is passed over where it can be neither."""
-    named = os.environ.get("IDENTIFY_LIVE")
+    """The library of a probe in flight, liblive.a."""
+    return ready_archive("live")
+
+
+def pair_library() -> Path:
+    """The library of two axes, libpair.a."""
+    return ready_archive("pair")
+
+
+@functools.cache
+def ready_archive(crate: str) -> Path:
+    """A crate's static library: the one that IDENTIFY_LIVE or IDENTIFY_PAIR names, or that of the sources, built where it was
+    built from others. A test is passed over where it can be neither."""
+    variable = f"IDENTIFY_{crate.upper()}"
+    named = os.environ.get(variable)
     if named:
         return Path(named).resolve()
+    archive, built_from = ROOT / f"target/staticlib/lib{crate}.a", ROOT / f"target/identify/{crate}.sha256"
     if not library.can_build(ROOT):
-        raise unittest.SkipTest("liblive.a cannot be built here, and IDENTIFY_LIVE names none")
-    archive, built_from = ROOT / "target/staticlib/liblive.a", ROOT / "target/identify/live.sha256"
+        raise unittest.SkipTest(f"{archive.name} cannot be built here, and {variable} names none")
     sources = library.digest(ROOT)
     if not archive.is_file() or not built_from.is_file() or built_from.read_text() != sources:
-        library.command(("rt", "staticlib", "live"), ROOT)
+        library.command((library.PROVER, "staticlib", crate), ROOT)
         built_from.parent.mkdir(parents=True, exist_ok=True)
         built_from.write_text(sources)
     return archive
 
 
-def compiled(folder: Path, archive: Path, source: str, *words: str, compiler: str = "cc", standard: str = "c11") -> Path:
-    """A program in `folder`, made of a C source and a library by a C or a C++ compiler, with no warning."""
+def compiled(
+    folder: Path, archives: Sequence[Path], source: str, *words: str, compiler: str = "cc", standard: str = "c11"
+) -> Path:
+    """A program in `folder`, made of a C source and libraries by a C or a C++ compiler, with no warning."""
     language = standard.rstrip("0123456789")
     strict = (f"-std={standard}", "-Wall", "-Wextra", "-Werror", "-pedantic")
-    parts = ("-I", str(HEADER.parent), "-x", language, "-", "-x", "none", str(archive), f"-Wl,-rpath,{archive.parent}")
+    places = [part for place in INCLUDES for part in ("-I", str(place))]
+    libraries = [part for archive in archives for part in (str(archive), f"-Wl,-rpath,{archive.parent}")]
     program = folder / "program"
-    subprocess.run((compiler, *strict, *words, *parts, "-o", str(program)), input=source, text=True, check=True)
+    parts = (*places, "-x", language, "-", "-x", "none", *libraries, "-o", str(program))
+    subprocess.run((compiler, *strict, *words, *parts), input=source, text=True, check=True)
     return program
 
 

@@ -16,13 +16,17 @@ from support import DEMO, identify
 from identify import library
 
 FAKE_RT = """#!/bin/sh
-echo "rt: report proved"
+echo "rt: $2 proved"
 echo "a note"
 mkdir -p target/staticlib
-for name in ${FAKE_RT_FUNCTIONS:-identify_byte_run identify_plain_units}; do
+case $2 in
+    exports) names=${FAKE_RT_FUNCTIONS:-identify_byte_run identify_plain_units} ;;
+    pair) names=identify_two_axis_run ;;
+esac
+for name in $names; do
     echo "unsigned $name(void) { return 0; }"
 done > target/stub.c
-cc -c -fPIC target/stub.c -o target/stub.o && ar rcs target/staticlib/libexports.a target/stub.o
+cc -c -fPIC target/stub.c -o target/stub.o && ar rcs target/staticlib/lib$2.a target/stub.o
 exit ${FAKE_RT_STATUS:-0}
 """
 
@@ -62,11 +66,11 @@ class FirstUse(unittest.TestCase):
 
     def test_builds_once_and_says_so(self):
         said = self.built()
-        self.assertIn("identify: building the proved library (rt staticlib exports, then cc)", said)
-        self.assertIn("rt: report proved", said)
+        self.assertIn("identify: building the proved library (rt staticlib exports, rt staticlib pair, then cc)", said)
+        self.assertIn("rt: exports proved\nrt: pair proved\n", said)
         self.assertNotIn("a note", said)
         opened = library.open_shared(self.shared)
-        self.assertTrue(opened.identify_byte_run and opened.identify_plain_units)
+        self.assertTrue(opened.identify_byte_run and opened.identify_plain_units and opened.identify_two_axis_run)
         self.assertEqual(self.built(), "")
 
     def test_builds_again_after_a_change(self):
@@ -142,6 +146,19 @@ class FirstUse(unittest.TestCase):
             with self.assertRaisesRegex(identify.LibraryError, "libexports.a cannot be linked"):
                 library.open_library(archive)
 
+    def test_the_archive_of_two_axes_is_taken_in_where_it_is(self):
+        self.built()
+        archive = self.root / library.ARCHIVE
+        self.assertTrue(library.open_library(archive).identify_two_axis_run)
+        archive.with_name(library.PAIR).unlink()
+        opened = library.open_library(archive)
+        self.assertTrue(opened.identify_byte_run)
+        with mock.patch.object(library, "load", return_value=opened), self.assertRaisesRegex(
+            identify.LibraryError, "no function identify_two_axis_run, which two axes need; set IDENTIFY_LIBRARY to a ready "
+            "libexports.a with libpair.a beside it, or to a libidentify.so made of both"
+        ):
+            library.two_axis_run()
+
     def test_failed_build(self):
         with self.assertRaisesRegex(identify.LibraryError, "`rt staticlib exports` failed with status 3"):
             self.built(FAKE_RT_STATUS="3")
@@ -166,7 +183,7 @@ class Demo(unittest.TestCase):
     def test_made_again(self):
         with tempfile.TemporaryDirectory() as folder:
             subprocess.run([sys.executable, str(DEMO / "make_flights.py"), folder], check=True, capture_output=True)
-            for name in ("clean", "noisy", "saturated"):
+            for name in ("clean", "noisy", "saturated", "roll_pitch"):
                 self.assertEqual((Path(folder) / f"{name}.csv").read_bytes(), (DEMO / f"{name}.csv").read_bytes())
 
 

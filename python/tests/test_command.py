@@ -201,14 +201,15 @@ class Readme(unittest.TestCase):
         self.assertEqual(re.findall(r"`([a-z-]+)`", table), [*checks.LOG_CHECKS, *checks.MODEL_CHECKS])
 
     def test_the_notebook(self):
-        lines = re.search(r"```python\n(.*?)```", self.text, re.DOTALL).group(1).splitlines()
         names = {}
-        with contextlib.chdir(ROOT):
-            exec("\n".join(lines), names)
-        shown = [line.split("#") for line in lines if "#" in line]
-        self.assertEqual(len(shown), 5)
-        for expression, value in shown:
-            self.assertEqual(repr(eval(expression, names)), value.strip())
+        for part, count in zip(re.findall(r"```python\n(.*?)```", self.text, re.DOTALL), (5, 4), strict=True):
+            lines = part.splitlines()
+            with contextlib.chdir(ROOT):
+                exec("\n".join(lines), names)
+            shown = [line.split("#") for line in lines if "#" in line]
+            self.assertEqual(len(shown), count)
+            for expression, value in shown:
+                self.assertEqual(repr(eval(expression, names)), value.strip())
 
 
 class Json(unittest.TestCase):

@@ -5,7 +5,7 @@ import tempfile
 import unittest
 from pathlib import Path
 
-from support import DEMO, HEADER, byte_library, compiled
+from support import DEMO, HEADER, M1_REPORT, byte_library, compiled
 
 M1 = r"""
 #include "identify.h"
@@ -37,7 +37,7 @@ def example() -> str:
 def run(source: str, *given: str) -> str:
     """What a C program writes that is linked with the library: for each text that it reads, or once for none."""
     with tempfile.TemporaryDirectory() as folder:
-        program = compiled(Path(folder), byte_library(), source, standard="c99")
+        program = compiled(Path(folder), [byte_library()], source, standard="c99")
         runs = (subprocess.run((program,), input=text, capture_output=True, text=True, check=True) for text in given or ("",))
         return "".join(run.stdout for run in runs)
 
@@ -52,8 +52,7 @@ class Header(unittest.TestCase):
         self.assertEqual(run(program).splitlines(), said)
 
     def test_m1(self):
-        report = "800000020020000020000000" + "00" * 24
-        self.assertEqual(run(M1), f"0 {report}3F0000003E8000003E000000BEE00000")
+        self.assertEqual(run(M1), f"0 {M1_REPORT}3F0000003E8000003E000000BEE00000")
 
     def test_the_delay_from_d_and_the_half_tick(self):
         logs = [(DEMO / f"{name}.csv").read_text() for name in ("noisy", "clean", "saturated")]

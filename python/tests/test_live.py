@@ -1,9 +1,6 @@
 """A probe in flight, from C: the header's live functions, the README's lines and the example, over the real library."""
 import functools
 import math
-import os
-import re
-import shutil
 import struct
 import subprocess
 import tempfile
@@ -11,17 +8,17 @@ import unittest
 from pathlib import Path
 
 from flights import demo_columns
-from support import HEADER, M1_CONFIG, ROOT, compiled, identify, live_library, made_flight
+from programs import (
+    EXAMPLES, HERE, STANDARDS, STATUS, MemoryTest, built, built_once, built_stack, defined, does_compile, logged,
+    measured_stack, ran, readme_lines, stack, status_of, words_of,
+)
+from support import HEADER, M1_CONFIG, ROOT, identify, live_library, made_flight
 
 from identify import probe, wire
 from identify.records import Config, Ending, Extension
 
-HERE = Path(__file__).resolve().parent
-EXAMPLE = ROOT / "examples/autopilot.c"
-STANDARDS = (("cc", "c99"), ("cc", "c11"), ("g++", "c++11"), ("g++", "c++17"))
+EXAMPLE = (EXAMPLES / "autopilot.c").read_text(encoding="utf8")
 COMPILERS = ("cc", "clang")
-STATUS = struct.Struct(">If3I6fI2f")
-"""The header's identify_state, as live.c writes it."""
 GARBAGE = 3000
 MODES = ("default", "flush-to-zero", "denormals-are-zero", "down", "up", "to-zero")
 
@@ -44,37 +41,15 @@ int main(void)
 """
 
 
-def built(test, source, *words, compiler="cc", standard="c11"):
-    """A program in a folder that goes with the test, or with the class of tests."""
-    need(compiler)
-    folder = tempfile.TemporaryDirectory()
-    (test.addClassCleanup if isinstance(test, type) else test.addCleanup)(folder.cleanup)
-    return compiled(Path(folder.name), live_library(), source, *words, compiler=compiler, standard=standard)
-
-
-def need(compiler):
-    """Passes a test over where a compiler is missing; cc is not."""
-    if compiler != "cc" and not shutil.which(compiler):
-        raise unittest.SkipTest(f"{compiler} is not installed")
+def built_live_program(test, source, *words, compiler="cc", standard="c11"):
+    """A program that is linked with the library of a probe in flight."""
+    return built(test, [live_library()], source, *words, compiler=compiler, standard=standard)
 
 
 @functools.cache
 def built_live():
-    """The program live.c, compiled once for all tests."""
-    folder = tempfile.mkdtemp()
-    unittest.addModuleCleanup(shutil.rmtree, folder)
-    source = (HERE / "live.c").read_text(encoding="utf8")
-    return compiled(Path(folder), live_library(), source, "-g", "-pthread")
-
-
-def ran(*words, given=b"", **variables):
-    """What a program writes to its output."""
-    return subprocess.run(words, input=given, stdout=subprocess.PIPE, check=True, env={**os.environ, **variables}).stdout
-
-
-def defined(name):
-    """A number that the header defines."""
-    return int(re.search(rf"#define {name} (\d+)", HEADER.read_text(encoding="utf8"))[1])
+    """The program live.c."""
+    return built_once([live_library()], "live.c")
 
 
 def packed(config, flight):
@@ -144,18 +119,6 @@ class Flights(unittest.TestCase):
         self.assertEqual(len({reports[k:k + 36] for k in range(0, len(reports), 36)}), 8)
 
 
-def status_of(report):
-    """The status that belongs to a report's bytes."""
-    fields = wire.split_bits(report[:12])
-    floats = struct.unpack(">6f", report[12:])
-    running = fields["kind"] == 0
-    units = probe.plain_units(report)
-    return STATUS.pack(
-        fields["kind"], floats[5] if running else 0.0, 2 * fields["d"] + fields["half"], fields["d"], fields["half"],
-        *floats[:5], 0.0 if running else floats[5], units is not None, *(units or (0.0, 0.0)),
-    )
-
-
 class Refusals(unittest.TestCase):
     """Rules 1 to 9: the number, and nothing written."""
 
@@ -208,19 +171,11 @@ class Garbage(unittest.TestCase):
         ran(built_live(), "garbage", str(GARBAGE))
 
 
-@unittest.skipUnless(shutil.which("valgrind"), "valgrind is not installed (Debian package valgrind)")
-class Memory(unittest.TestCase):
-    """No bad read or write, and no decision on a byte that nobody wrote."""
-
-    def check(self, *words, given=b""):
-        """Runs a program under valgrind."""
-        how = ("valgrind", "--quiet", "--error-exitcode=9", "--leak-check=full", "--track-origins=no")
-        result = subprocess.run((*how, *words), input=given, capture_output=True)
-        self.assertEqual((result.returncode, result.stderr.decode()), (0, ""))
-        return result.stdout
+class Memory(MemoryTest):
+    """The example, flights and garbage."""
 
     def test_the_example(self):
-        self.check(built(self, EXAMPLE.read_text(encoding="utf8"), "-g"))
+        self.check(built_live_program(self, EXAMPLE, "-g"))
 
     def test_flights_and_garbage(self):
         live = built_live()
@@ -236,32 +191,24 @@ class Stack(unittest.TestCase):
 
     @classmethod
     def setUpClass(cls):
-        words = ("-O2", "-fno-omit-frame-pointer", "-pthread")
-        cls.program = built(cls, (HERE / "stack.c").read_text(encoding="utf8"), *words)
+        cls.program = built_stack(cls, [live_library()], "stack.c")
         cls.given = packed(*full_noisy_flight())
         cls.limit = defined("IDENTIFY_STACK")
 
-    def stack(self, *words):
-        """What the program says. All names are bound at its start: the lookup at a first call would take stack of its own."""
-        return ran(self.program, *words, given=self.given, LD_BIND_NOW="1").decode().splitlines()
-
-    def measured(self):
-        """The bytes that each function takes on a painted stack."""
-        return {name: int(count) for name, count in map(str.split, self.stack("measure"))}
-
     def test_measured(self):
-        taken = self.measured()
+        taken = measured_stack(self.program, self.given)
         self.assertEqual(set(taken), {"open", "step", "status", "report"})
         self.assertEqual(max(taken, key=taken.get), "step")
         self.assertLessEqual(taken["step"], self.limit)
         self.assertGreater(taken["step"], self.limit - 4096, "the header says a page more than the call takes")
 
     def test_a_thread_with_just_that_much(self):
-        self.assertEqual(self.stack("exact", str(self.limit)), ["done"])
+        self.assertEqual(stack(self.program, "exact", str(self.limit), given=self.given), ["done"])
 
     def test_a_thread_with_less_ends(self):
+        taken = measured_stack(self.program, self.given)["step"]
         with self.assertRaisesRegex(subprocess.CalledProcessError, "SIGSEGV"):
-            self.stack("exact", str(self.measured()["step"] - 256))
+            stack(self.program, "exact", str(taken - 256), given=self.given)
 
 
 class Arithmetic(unittest.TestCase):
@@ -269,7 +216,7 @@ class Arithmetic(unittest.TestCase):
 
     def answers(self, *words, compiler="cc"):
         """The modes in which it answers 1: for floats and doubles alike, since one register sets the mode of both."""
-        program = built(self, (HERE / "arithmetic.c").read_text(encoding="utf8"), *words, compiler=compiler)
+        program = built_live_program(self, (HERE / "arithmetic.c").read_text(encoding="utf8"), *words, compiler=compiler)
         lines = dict(line.split() for line in ran(program).decode().splitlines())
         self.assertEqual(tuple(lines), MODES)
         self.assertLessEqual(set(lines.values()), {"000", "111"})
@@ -303,40 +250,19 @@ class Example(unittest.TestCase):
         for compiler, standard in (("cc", "c11"), ("g++", "c++17")):
             with self.subTest(standard), tempfile.TemporaryDirectory() as folder:
                 path = Path(folder) / "log.csv"
-                program = built(self, EXAMPLE.read_text(encoding="utf8"), compiler=compiler, standard=standard)
+                program = built_live_program(self, EXAMPLE, compiler=compiler, standard=standard)
                 *screen, last = ran(program, path).decode().splitlines()
                 log = identify.read_log(path)
                 report = identify.run(Config(), log.dt, log.rate, log.moment)
                 self.assertEqual(last, report.raw.hex().upper())
-                self.assertEqual(offsets_of(path), report.offsets)
+                self.assertEqual(logged(path, "offset"), report.offsets)
                 self.assertEqual(screen[-4:], words_of(report.model))
                 self.assertEqual([line.split()[0] for line in screen[:-4]], [f"{second}.0" for second in range(1, 8)])
                 self.assertEqual(screen[:-4], ran(program).decode().splitlines()[:-5])
 
 
-def offsets_of(path):
-    """The offsets that the example logged, in single precision."""
-    return tuple(wire.singles(float(line.split(",")[3]) for line in path.read_text().splitlines()[1:]))
-
-
-def words_of(model):
-    """What the example's screen shows of a model."""
-    half = " and a half" if model.half_ticks % 2 else ""
-    return [
-        "done",
-        f"  delay  {1000 * model.delay_s:.2f} ms: {model.whole_ticks} ticks{half} of {1000 * model.dt_s:.2f} ms",
-        f"  lag    {1000 * model.lag_s:.2f} ms",
-        f"  push   {model.accel_radps2:.2f} rad/s2 per unit moment",
-    ]
-
-
 class Sources(unittest.TestCase):
     """What a caller compiles: the header and the README's lines."""
-
-    def readme(self):
-        """The README's lines, with a caller that flies a log."""
-        text = (ROOT / "README.md").read_text(encoding="utf8")
-        return re.search(r"```c\n(.*?)```", text, re.DOTALL)[1] + README_CALLER
 
     def test_the_readmes_lines_identify_a_flight(self):
         flight = demo_columns("noisy")
@@ -344,7 +270,8 @@ class Sources(unittest.TestCase):
         lines = "\n".join(",".join(map(repr, call)) for call in zip(*flight))
         for compiler, standard in STANDARDS:
             with self.subTest(standard):
-                program = built(self, self.readme(), "-Wconversion", compiler=compiler, standard=standard)
+                source = readme_lines(0) + README_CALLER
+                program = built_live_program(self, source, "-Wconversion", compiler=compiler, standard=standard)
                 kind, *values = ran(program, given=lines.encode()).decode().split()
                 self.assertEqual(kind, "1")
                 expected = (model.delay_s, model.lag_s, model.accel_radps2)
@@ -361,11 +288,9 @@ class Sources(unittest.TestCase):
         for compiler, standard in STANDARDS:
             for text, compiles in ((header, True), (header.replace("float floats[14];", "float floats[15];"), False)):
                 with self.subTest(standard, compiles=compiles):
-                    need(compiler)
-                    words = (compiler, f"-std={standard}", "-fsyntax-only", "-x", standard.rstrip("0123456789"), "-")
-                    result = subprocess.run(words, input=text, text=True, capture_output=True)
-                    self.assertEqual(result.returncode == 0, compiles)
-                    self.assertEqual("identify_probe_has_its_size" in result.stderr, not compiles)
+                    found, said = does_compile(text, compiler, standard)
+                    self.assertEqual(found, compiles)
+                    self.assertEqual("identify_probe_has_its_size" in said, not compiles)
 
 
 if __name__ == "__main__":

@@ -4,12 +4,12 @@ import math
 import struct
 import unittest
 
-from support import DEMO, M1_CONFIG, MOMENT_WEIGHTS, RATE_WEIGHTS, gainless_flight, identify, made_flight
+from support import DEMO, M1_CONFIG, M1_REPORT, MOMENT_WEIGHTS, RATE_WEIGHTS, gainless_flight, identify, made_flight
 
 from identify import library, wire
 from identify.records import Config, ConfigRefused, Ending, Extension
 
-M1_OUTPUT = bytes.fromhex("800000020020000020000000" + "00" * 24 + "3F0000003E8000003E000000BEE00000")
+M1_OUTPUT = bytes.fromhex(M1_REPORT + "3F0000003E8000003E000000BEE00000")
 
 
 def zeros(dt):

@@ -17,8 +17,8 @@ use Rattle.integrated.specs.Integrated.{fitIntegrated}
 use Rattle.account.specs.declared.IdentifyConfig.{IdentifyConfig}
 use Rattle.account.specs.declared.Noisy.{Noisy}
 use Rattle.account.specs.declared.Noisy.the-variants.{Absent, Present}
-use Rattle.account.specs.Probe.{Call, Probe, Standing, Closing, clock, finished, statusOf, stands, takes, extend, close, tick, answer, step, fresh, after, replies, number}
-use Rattle.account.specs.Account.{Account, Entry, blank, opened, account, entry, counted, Going, judged, ended, accept, continue, next, turned, turnedBack, time, ratesOf, momentsOf, marksOf, accountClass}
+use Rattle.account.specs.Probe.{Call, Probe, Standing, Closing, clock, finished, statusOf, stands, takes, extend, close, tick, answer, step, freshAt, after, replies, number}
+use Rattle.account.specs.Account.{Account, Entry, blank, opened, account, entry, counted, Going, isIntegrated, judged, ended, accept, continue, next, turned, turnedBack, time, ratesOf, momentsOf, marksOf, accountClass}
 
 map-push : {A B : Type 0} (f : A → B) (b : Bool) (l : List A) (x : A) → map f (cond b (l ++ (x ∷ [])) l) ≡ push b (map f l) (f x)
 unfolding push
@@ -74,29 +74,32 @@ module _ (a : Account) (o : List Float) (s : SquareSweep) where
   abbrev Agrees : Closing → Going → Type 0
   Agrees z g = z ≡ record { end = g .end; unused = g .unused; sweep = z .sweep; standing = standsOf (g .running) a }
 
-  judges : (x : Classified) (u : Noisy) → Agrees (extend (a .elapsed) (samplesOf a o) (takes x u) (a .end) u s) (judged x u a)
-  unfolding extend takes judged
-  judges Integrated (Present x) = refl
-  judges Integrated Absent = refl
-  judges (Recorded m) u = refl
-  judges Unexcited u = refl
-  judges Saturated u = refl
+  judges : (asked : Bool) (x : Classified) (u : Noisy)
+      → Agrees (extend (a .elapsed) (samplesOf a o) (takes asked x u) (a .end) u s) (judged (asked || isIntegrated x) u a)
+  unfolding extend takes judged isIntegrated
+  judges true x (Present e) = refl
+  judges true x Absent = refl
+  judges false Integrated (Present e) = refl
+  judges false Integrated Absent = refl
+  judges false (Recorded m) u = refl
+  judges false Unexcited u = refl
+  judges false Saturated u = refl
 
-  closes : (r : Bool) → Agrees (close (a .elapsed) (samplesOf a o) r (a .end) (a .unused) s) (ended r a)
+  closes : (asked r : Bool) → Agrees (close (a .elapsed) (samplesOf a o) asked r (a .end) (a .unused) s) (ended asked r a)
   unfolding close ended
-  closes true = refl
-  closes false = judges (accountClass a) (a .unused)
+  closes asked true = refl
+  closes asked false = judges asked (accountClass a) (a .unused)
 
 -- ---- one call
 abbrev pub Follows : Probe → Account → Type 0
 Follows p a = p ≡ probeOf a (p .sweep) (p .samples .offsets)
 
-ticks : (a : Account) (s : SquareSweep) (o : List Float) (c : Call) → Follows (tick (a .elapsed) (probeOf a s o) c .probe) (accept a c)
+pub ticks : (a : Account) (s : SquareSweep) (o : List Float) (c : Call) → Follows (tick (a .elapsed) (probeOf a s o) c .probe) (accept a c)
 unfolding tick accept counted
 ticks a s o c =
     let now = add binary32 (a .elapsed) (c .dt) in
     let w = nextSweep s (c .dt) now in
-    rw (stored a c o (w .offset), closes (counted a c) (push (room (length (a .entries))) o (w .offset)) (w .sweep) (lt now (a .end)))
+    rw (stored a c o (w .offset), closes (counted a c) (push (room (length (a .entries))) o (w .offset)) (w .sweep) (c .asked) (lt now (a .end)))
 
 answers : (n : ℕ) (r : Bool) (a : Account) (s : SquareSweep) (o : List Float) (c : Call)
     → Follows (answer n (time r a) (probeOf a s o) c .probe) (continue n r a c)
@@ -111,7 +114,7 @@ numbers (suc n) t p c = refl
 numbers zero none p c = refl
 numbers zero (some e) p c = refl
 
-one : (p : Probe) (a : Account) (c : Call) → Follows p a → Follows (step p c .probe) (next a c)
+pub one : (p : Probe) (a : Account) (c : Call) → Follows p a → Follows (step p c .probe) (next a c)
 unfolding step next turned
 one p a c h =
     subst (λ (q : Probe). Follows (step q c .probe) (next a c)) (sym h)
@@ -132,6 +135,6 @@ turns [] p a h = refl
 turns (c ∷ cs) p a h = ap₂ _∷_ (replied p a c h) (turns cs (step p c .probe) (next a c) (one p a c h))
 
 -- a fresh probe follows a fresh account
-pub begins : (c : IdentifyConfig) → Follows (fresh c) (opened c)
-unfolding fresh opened stands noSamples
-begins c = refl
+pub begins : (high : Bool) (c : IdentifyConfig) → Follows (freshAt high c) (opened c)
+unfolding freshAt opened stands noSamples
+begins high c = refl

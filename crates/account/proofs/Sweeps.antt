@@ -17,7 +17,7 @@ use Rattle.account.specs.declared.IdentifyConfig.{IdentifyConfig}
 use Rattle.account.specs.declared.Noisy.{Noisy}
 use Rattle.account.specs.declared.Noisy.the-variants.{Absent, Present}
 use Rattle.account.specs.Rules.{positive, overrun, refusal}
-use Rattle.account.specs.Probe.{Call, Probe, clock, takes, extend, close, tick, answer, step, fresh, after}
+use Rattle.account.specs.Probe.{Call, Probe, clock, takes, extend, close, tick, answer, step, freshAt, after}
 
 -- a call that rules 6 and 7 let pass
 pub passed : (e : Float) (ticks : ℕ) (dt : Float) → refusal (some e) ticks dt ≡ 0 → (positive dt ≡ true) × (lt (whole32 4096) (add binary32 e dt) ≡ false)
@@ -38,17 +38,17 @@ module _ (now : Float) (w : Samples) where
   extends Absent end u s h = h
   extends (Present x) end u s h = safe-amplitude s (x .amplitude) h
 
-  closes : (r : Bool) (end : Float) (u : Noisy) (s : SquareSweep) → Safe s → Safe (close now w r end u s .sweep)
+  closes : (asked r : Bool) (end : Float) (u : Noisy) (s : SquareSweep) → Safe s → Safe (close now w asked r end u s .sweep)
   unfolding close
-  closes true end u s h = h
-  closes false end u s h = extends (takes (classify (w .rates) (w .moments) (w .marks) (w .duration)) u) end u s h
+  closes asked true end u s h = h
+  closes asked false end u s h = extends (takes asked (classify (w .rates) (w .moments) (w .marks) (w .duration)) u) end u s h
 
 ticks : (e : Float) (p : Probe) (c : Call) → lt (whole32 4096) (add binary32 e (c .dt)) ≡ false → Safe (p .sweep) → Safe (tick e p c .probe .sweep)
 unfolding tick
 ticks e p c h s =
     let now = add binary32 e (c .dt) in
     let t = nextSweep (p .sweep) (c .dt) now in
-    closes now (store (p .samples) (c .dt) (c .rate) (c .moment) (t .offset)) (lt now (p .end)) (p .end) (p .unused) (t .sweep)
+    closes now (store (p .samples) (c .dt) (c .rate) (c .moment) (t .offset)) (c .asked) (lt now (p .end)) (p .end) (p .unused) (t .sweep)
     (safe-next (p .sweep) (c .dt) now h s)
 
 answers : (n : ℕ) (t : Option Float) (p : Probe) (c : Call) → refusal t (p .ticks) (c .dt) ≡ n → Safe (p .sweep) → Safe (answer n t p c .probe .sweep)
@@ -63,6 +63,6 @@ safe [] p s = s
 safe (c ∷ cs) p s =
     safe cs (step p c .probe) (answers (refusal (clock (p .standing .status)) (p .ticks) (c .dt)) (clock (p .standing .status)) p c refl s)
 
-pub safe-fresh : (c : IdentifyConfig) → Safe (fresh c .sweep)
-unfolding fresh
-safe-fresh c = safe-start (c .amplitude) (c .«washout_tc_s») true
+pub safe-fresh : (high : Bool) (c : IdentifyConfig) → Safe (freshAt high c .sweep)
+unfolding freshAt
+safe-fresh high c = safe-start (c .amplitude) (c .«washout_tc_s») high

@@ -1,4 +1,4 @@
--- Demand 3, on the definitions: the claim holds of every configuration and every list of calls. The report of the probe is then that of the account.
+-- Demand 3, on the definitions: the claim holds of every configuration, level and list of calls. The report of the probe is then that of the account.
 use Prim.Native.Nat.{ℕ, suc, _+_, _-_, _/_, _<_}
 use mathlib.Core.Path.{_≡_, refl, sym, ap₂, subst}
 use mathlib.Core.Bool.{Bool, true, false, true≢false}
@@ -18,7 +18,7 @@ use Rattle.lags.specs.Lags.{lagged, lagTo}
 use Rattle.gain.specs.Gain.{firstTick, stepCount, wholeTicksOf, isHalf, blend, felt, regressor}
 use Rattle.account.specs.declared.IdentifyConfig.{IdentifyConfig}
 use Rattle.account.specs.Rules.{refusal}
-use Rattle.account.specs.Probe.{Call, Probe, fresh, after}
+use Rattle.account.specs.Probe.{Call, Probe, freshAt, after}
 use Rattle.account.specs.Account.{Account, Entry, opened, account, next, time, turned, ratesOf, momentsOf, marksOf, runsOf}
 use Rattle.account.specs.Claim.{Accounted}
 use Rattle.account.proofs.Follow.{follows, turns, begins, clocks}
@@ -43,16 +43,16 @@ unfolding time
 accepted-in-time a c true e h = in-time (a .elapsed) (a .ticks) (c .dt) h
 accepted-in-time a c false e h = absurd (true≢false (sym e))
 
-pub accounted : (c : IdentifyConfig) (calls : List Call) → Accounted c calls (after (fresh c) calls) (account (opened c) calls)
+pub accounted : (high : Bool) (c : IdentifyConfig) (calls : List Call) → Accounted high c calls (after (freshAt high c) calls) (account (opened c) calls)
 unfolding opened turned
-accounted c calls =
+accounted high c calls =
     let a = account (opened c) calls in
     let marks = marksOf a in
     let entries : length (ratesOf a) ≡ length marks = simp length-map in
-    let safely = safe calls (fresh c) (safe-fresh c) in
-    subst (λ (p : Probe). Accounted c calls p a) (sym (follows calls (fresh c) (opened c) (begins c)))
+    let safely = safe calls (freshAt high c) (safe-fresh high c) in
+    subst (λ (p : Probe). Accounted high c calls p a) (sym (follows calls (freshAt high c) (opened c) (begins high c)))
     record {
-      refused = turns calls (fresh c) (opened c) (begins c);
+      refused = turns calls (freshAt high c) (opened c) (begins high c);
       ended = clocks (a .running) a;
       ticks = refl;
       rates = refl;
@@ -78,6 +78,6 @@ accounted c calls =
       by-integrated = λ m e h. by-integrated a (a .running) m e h;
       finite-model = λ m e h. finite-model a (a .running) m (duration c calls) e h;
       inside = safely .inside;
-      edges = λ x r h. passes (add binary32 (a .elapsed) (x .dt)) (after (fresh c) calls .sweep) (accepted-in-time a x (a .running) r h) safely .loop;
+      edges = λ x r h. passes (add binary32 (a .elapsed) (x .dt)) (after (freshAt high c) calls .sweep) (accepted-in-time a x (a .running) r h) safely .loop;
       continued = λ others. foldl-append next (opened c) calls others;
     }

@@ -90,24 +90,30 @@ pub record Going : Type 0 where
   pub unused : Noisy
   pub running : Bool
 
--- "'Integrated' with an unused extension makes the extension's duration the end time and uses it, and elapsed below that goes on; all else ends the account."
-unfoldable pub judged : Classified → Noisy → Account → Going
-judged Integrated (Present x) a = record { end = x .«duration_s»; unused = Absent; running = lt (a .elapsed) (x .«duration_s») }
-judged Integrated Absent a = record { end = a .end; unused = Absent; running = false }
-judged (Recorded m) unused a = record { end = a .end; unused = unused; running = false }
-judged Unexcited unused a = record { end = a .end; unused = unused; running = false }
-judged Saturated unused a = record { end = a .end; unused = unused; running = false }
+-- whether a class is "integrated"
+unfoldable pub isIntegrated : Classified → Bool
+isIntegrated (Recorded m) = false
+isIntegrated Integrated = true
+isIntegrated Unexcited = false
+isIntegrated Saturated = false
 
--- "If elapsed is then below the end time, the account goes on. Otherwise its entries are classified as above."
-unfoldable pub ended : Bool → Account → Going
-ended true a = record { end = a .end; unused = a .unused; running = true }
-ended false a = judged (accountClass a) (a .unused) a
+-- "'Integrated' with an unused extension makes the extension's duration the end time and uses it, and elapsed below that goes on; all else ends the account."
+-- First whether the class is that one, or the other axis asks for the extension.
+unfoldable pub judged : Bool → Noisy → Account → Going
+judged true (Present x) a = record { end = x .«duration_s»; unused = Absent; running = lt (a .elapsed) (x .«duration_s») }
+judged true Absent a = record { end = a .end; unused = Absent; running = false }
+judged false unused a = record { end = a .end; unused = unused; running = false }
+
+-- "If elapsed is then below the end time, the account goes on. Otherwise its entries are classified as above." Whether the other axis asks, and whether elapsed is below.
+unfoldable pub ended : Bool → Bool → Account → Going
+ended asked true a = record { end = a .end; unused = a .unused; running = true }
+ended asked false a = judged (asked || isIntegrated (accountClass a)) (a .unused) a
 
 -- a call accepted while running
 unfoldable pub accept : Account → Call → Account
 accept a c =
     let b = counted a c in
-    let g = ended (lt (b .elapsed) (b .end)) b in
+    let g = ended (c .asked) (lt (b .elapsed) (b .end)) b in
     record {
       elapsed = b .elapsed;
       ticks = b .ticks;

@@ -1,8 +1,8 @@
--- Demand 3, one claim about every list of calls from a fresh probe: 01, "The account of a list of steps".
+-- Demand 3, one claim about every list of calls from a fresh probe, high or low: 01, "The account of a list of steps".
 -- p is the probe that the calls leave, and a the account of the same calls. `proofs/Theorem.antt` proves the claim for every configuration and every list.
 use Prim.Native.Nat.{ℕ, _+_, _-_, _≤_, _<_, min}
 use mathlib.Core.Path.{_≡_}
-use mathlib.Core.Bool.{true, cond}
+use mathlib.Core.Bool.{Bool, true, cond}
 use mathlib.Core.List.{List, _++_, map}
 use lib.Dec.{leb}
 use lib.ListN.{length}
@@ -32,7 +32,7 @@ use Rattle.integrated.specs.Integrated as integrated
 use Rattle.finite_model.specs.FiniteModel.{FiniteModel}
 use Rattle.account.specs.declared.IdentifyConfig.{IdentifyConfig}
 use Rattle.account.specs.declared.IdentifyStatus.the-variants.{Done}
-use Rattle.account.specs.Probe.{Call, Probe, clock, delayOf, stands, fresh, replies, number}
+use Rattle.account.specs.Probe.{Call, Probe, clock, delayOf, stands, freshAt, replies, number}
 use Rattle.account.specs.Account.{Account, opened, account, turned, turnedBack, accepted, time, ratesOf, momentsOf, marksOf, accountClass, runsOf}
 
 -- the position that the tie rule gives for the account's entries, in the recorded fit and in the integrated one
@@ -66,9 +66,9 @@ delayBy class.Saturated a = noDelay
 unfoldable pub accountDelay : Account → Delay
 accountDelay a = cond (a .running) noDelay (delayBy (accountClass a) a)
 
-pub record Accounted (c : IdentifyConfig) (calls : List Call) (p : Probe) (a : Account) : Type 0 where
+pub record Accounted (high : Bool) (c : IdentifyConfig) (calls : List Call) (p : Probe) (a : Account) : Type 0 where
   -- "the calls that answered a number are those the account turned back", with the same numbers
-  pub refused : map number (replies (fresh c) calls) ≡ turnedBack (opened c) calls
+  pub refused : map number (replies (freshAt high c) calls) ≡ turnedBack (opened c) calls
   -- "Probe and account have both ended or neither"; while they run, at the same elapsed time
   pub ended : clock (p .standing .status) ≡ time (a .running) a
   -- "Reported ticks, stored and held, and the window's rates, moments and marks in their order, are the account's."

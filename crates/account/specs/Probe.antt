@@ -28,6 +28,12 @@ pub record Call : Type 0 where
   pub dt : Float
   pub rate : Float
   pub moment : Float
+  -- 02, five: whether the other axis of a flight asks for the extension at this call
+  pub asked : Bool
+
+-- the call of a probe that flies alone
+abbrev pub alone : (dt rate moment : Float) → Call
+alone dt rate moment = record { dt = dt; rate = rate; moment = moment; asked = false }
 
 -- what it answers: an offset, or the number of the rule that it broke
 pub data Reply : Type 0 where
@@ -67,16 +73,20 @@ delayOf (status.Done m) = m .delay
 delayOf status.Unexcited = noDelay
 delayOf status.Saturated = noDelay
 
--- a probe just made: "at edge 0, high"
-unfoldable pub fresh : IdentifyConfig → Probe
-fresh c = record {
+-- a probe just made: "at edge 0", high or low
+unfoldable pub freshAt : Bool → IdentifyConfig → Probe
+freshAt high c = record {
   ticks = 0;
   samples = noSamples;
   end = c .«duration_s»;
   unused = c .noisy;
-  sweep = started (c .amplitude) (c .«washout_tc_s») true;
+  sweep = started (c .amplitude) (c .«washout_tc_s») high;
   standing = record { status = status.Running zero32; fits = 0 };
 }
+
+-- one that flies alone: "at edge 0, high"
+abbrev pub fresh : IdentifyConfig → Probe
+fresh c = freshAt true c
 
 -- "the model once done", or Unexcited
 abbrev pub statusOf : Fitted → IdentifyStatus
@@ -100,12 +110,13 @@ stands false elapsed rates moments marks duration = finished (classify rates mom
 abbrev pub standsWith : Bool → Float → Samples → Standing
 standsWith running elapsed w = stands running elapsed (w .rates) (w .moments) (w .marks) (w .duration)
 
--- the extension that a class takes: "If the answer is 'integrated' and an unused extension exists"
-unfoldable pub takes : Classified → Noisy → Noisy
-takes (Recorded m) unused = Absent
-takes Integrated unused = unused
-takes Unexcited unused = Absent
-takes Saturated unused = Absent
+-- the extension that a class takes: "If the answer is 'integrated' and an unused extension exists"; where the other axis asks, any class takes it
+unfoldable pub takes : Bool → Classified → Noisy → Noisy
+takes true class unused = unused
+takes false (Recorded m) unused = Absent
+takes false Integrated unused = unused
+takes false Unexcited unused = Absent
+takes false Saturated unused = Absent
 
 -- what the end of a tick decides
 pub record Closing : Type 0 where
@@ -125,10 +136,10 @@ module _ (now : Float) (w : Samples) where
     standing = standsWith (lt now (x .«duration_s»)) now w;
   }
 
-  -- "Elapsed below duration_s: go on. Otherwise classify."
-  unfoldable pub close : Bool → Float → Noisy → SquareSweep → Closing
-  close true end unused s = record { end = end; unused = unused; sweep = s; standing = standsWith true now w }
-  close false end unused s = extend (takes (classify (w .rates) (w .moments) (w .marks) (w .duration)) unused) end unused s
+  -- "Elapsed below duration_s: go on. Otherwise classify." Whether the other axis asks, and whether elapsed is below.
+  unfoldable pub close : Bool → Bool → Float → Noisy → SquareSweep → Closing
+  close asked true end unused s = record { end = end; unused = unused; sweep = s; standing = standsWith true now w }
+  close asked false end unused s = extend (takes asked (classify (w .rates) (w .moments) (w .marks) (w .duration)) unused) end unused s
 
 pub record Step : Type 0 where
   pub probe : Probe
@@ -140,7 +151,7 @@ tick e p c =
     let now = add binary32 e (c .dt) in
     let s = nextSweep (p .sweep) (c .dt) now in
     let w = store (p .samples) (c .dt) (c .rate) (c .moment) (s .offset) in
-    let z = close now w (lt now (p .end)) (p .end) (p .unused) (s .sweep) in
+    let z = close now w (c .asked) (lt now (p .end)) (p .end) (p .unused) (s .sweep) in
     record {
       reply = offset (s .offset);
       probe = record {

@@ -31,7 +31,7 @@ module _ (c : IdentifyConfig) (calls : List Call) (output : List ℕ) where
 
   started-tells : (b : ℕ) → ran b c calls output .result ≡ 0 → Tells (ran b c calls output .output) (accountDelay (account (opened c) calls)) × TellsFinite (ran b c calls output .output)
   unfolding ran onto written
-  started-tells zero h = let k = accounted c calls in rw (append-assoc, ← reported k) (told k _, finite-told k _)
+  started-tells zero h = let k = accounted true c calls in rw (append-assoc, ← reported k) (told k _, finite-told k _)
   started-tells (suc b) h = absurd (omega arith)
 
 module _ (config calls output : List ℕ) where

@@ -9,8 +9,8 @@ use Rattle.byte_run.specs.ByteRun.{byteRun, runIf, ran, onto, sized, wri
 use Rattle.wire.specs.Words.{floatAt, wordAt, wordBytes, bytesOf, Ran}
 use Rattle.report.specs.Report.{reportBytes, packed, fieldsOf, floatsOf, kindOf}
 use Rattle.probe_report.specs.ProbeReport.{ofAccount}
-use Rattle.account.specs.Account.{opened, entry, counted, judged, ended, accept, time, turned, continue, next}
-use Rattle.account.specs.Probe.{clock, delayOf, fresh, finished, stands, takes, extend, close, tick, answer, step, replies}
+use Rattle.account.specs.Account.{opened, entry, counted, isIntegrated, judged, ended, accept, time, turned, continue, next}
+use Rattle.account.specs.Probe.{clock, delayOf, freshAt, finished, stands, takes, extend, close, tick, answer, step, replies}
 use Rattle.account.specs.Rules.{positive, nonZero, tooLong, brokenExtension, broken, overrun, refusal}
 use Rattle.recorded.specs.Classify.{effectOf, entryOf, modelOf, fitAt, fitOf, entries, solvedAt, rowsDt, fitRecorded, classOf, classify}
 use Rattle.rows.specs.Rows.{target, regressors, product, projection, each, sumsBy, noSums, sumRows, windowSums}
@@ -63,7 +63,7 @@ pub record Marked : Type 0 where
   pub M12 : (heldOf window.broken ≡ 1) × (warmOf (goodRuns window.broken) ≡ 22) × (length (rowsOf (goodRuns window.broken)) ≡ 3)
 
 pub marked : Marked
-unfolding m1-config m1-call m1-ran byteRun runIf ran sized broken brokenExtension nonZero positive tooLong configOf extensionOf floatAt wordAt finite ofBits ofInt lt eq onto written callsOf callsTo callAt replyWord reportBytes wordBytes bytesOf packed fieldsOf floatsOf delayOf kindOf ofAccount opened entry counted judged ended accept time turned continue next clock fresh finished stands takes extend close tick answer step replies overrun refusal effectOf entryOf modelOf fitAt fitOf entries solvedAt rowsDt fitRecorded classOf classify target regressors product projection sumsBy noSums sumRows windowSums fillDown less each reduced factorEntry factor above forwardEntry forward backwardEntry backward dot differenceOf allFinite kept solveIf solveWith solve considered residuals lesser leastTo within firstFrom underBar shortestTied delayToFit run over many runsFrom heldOf rowsOf warmOf noSamples lastOf push hold bad store halfPeriod started passEdge due passDue passEdges square washed withWashout withAmplitude swept nextSweep maxZero least isqrt nearRoot rootOf rooted sumTo fill toBits add sub mul div neg le ne
+unfolding m1-config m1-call m1-ran byteRun runIf ran sized broken brokenExtension nonZero positive tooLong configOf extensionOf floatAt wordAt finite ofBits ofInt lt eq onto written callsOf callsTo callAt replyWord reportBytes wordBytes bytesOf packed fieldsOf floatsOf delayOf kindOf ofAccount opened entry counted isIntegrated judged ended accept time turned continue next clock freshAt finished stands takes extend close tick answer step replies overrun refusal effectOf entryOf modelOf fitAt fitOf entries solvedAt rowsDt fitRecorded classOf classify target regressors product projection sumsBy noSums sumRows windowSums fillDown less each reduced factorEntry factor above forwardEntry forward backwardEntry backward dot differenceOf allFinite kept solveIf solveWith solve considered residuals lesser leastTo within firstFrom underBar shortestTied delayToFit run over many runsFrom heldOf rowsOf warmOf noSamples lastOf push hold bad store halfPeriod started passEdge due passDue passEdges square washed withWashout withAmplitude swept nextSweep maxZero least isqrt nearRoot rootOf rooted sumTo fill toBits add sub mul div neg le ne
 marked = record {
   M1 = refl;
   M2 = sweep.M2;

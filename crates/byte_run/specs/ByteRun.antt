@@ -7,7 +7,7 @@ use lib.Dec.{leb, eqb}
 use lib.ListN.{length, drop}
 use Rattle.account.specs.declared.IdentifyConfig.{IdentifyConfig}
 use Rattle.account.specs.Rules.{broken}
-use Rattle.account.specs.Probe.{Call, Reply, offset, refused, fresh, replies}
+use Rattle.account.specs.Probe.{Call, alone, Reply, offset, refused, fresh, replies}
 use Rattle.account.specs.Account.{opened, account}
 use Rattle.account.specs.Claim.{accountDelay}
 use Rattle.wire.specs.Words.{floatAt, wordBytes, wordOf, Ran}
@@ -17,7 +17,7 @@ use Rattle.probe_report.specs.ProbeReport.{ofAccount}
 
 -- "Call: dt, rate, moment": the call at byte i
 unfoldable pub callAt : List ℕ → ℕ → Call
-callAt bytes i = record { dt = floatAt bytes i; rate = floatAt bytes (i + 4); moment = floatAt bytes (i + 8) }
+callAt bytes i = alone (floatAt bytes i) (floatAt bytes (i + 4)) (floatAt bytes (i + 8))
 
 -- the first n calls
 unfoldable pub callsTo : List ℕ → ℕ → List Call

@@ -3,10 +3,13 @@ ghost use mathlib.Core.Path.{_≡_};
 ghost use mathlib.Core.List.{List};
 ghost use lib.Ieee.{Float};
 ghost use Rattle.window.specs.Arrays.{samplesIn};
+ghost use mathlib.Core.Bool.{false};
+ghost use lib.Ieee.{lt};
 ghost use Rattle.recorded.specs.declared.Classified.the-variants.{Integrated};
 ghost use Rattle.account.specs.declared.IdentifyStatus.the-variants.{Running};
 ghost use Rattle.account.specs.Probe.{takes, statusOf};
-ghost use Rattle.closing.specs.Ending.{standOf, finishedIn, standsBy, closedBy};
+ghost use Rattle.account.specs.Account.{isIntegrated};
+ghost use Rattle.closing.specs.Ending.{standOf, finishedIn, standsBy, dueBy, asksOf, endedBy, closedDue, closedBy};
 use account::IdentifyStatus;
 use account::Noisy;
 use integrated::Fitted;
@@ -29,10 +32,30 @@ pub struct Ending {
     pub gain_fits: u32,
 }
 
-// The extension that a class of window takes.
-fn taken_extension(class: Classified, noisy: Noisy) -> Noisy
-    ensures { λ r. ⌜ r ≡ takes class noisy ⌝ }
+// What the end of a tick finds: its end time ahead, or the class of the window.
+pub enum Due {
+    Ahead,
+    Class(Classified),
+}
+
+fn is_integrated(class: Classified) -> bool
+    ensures { λ r. ⌜ r ≡ isIntegrated class ⌝ }
 {
+    match class {
+        Classified::Integrated => true,
+        Classified::Recorded(_) => false,
+        Classified::Unexcited => false,
+        Classified::Saturated => false,
+    }
+}
+
+// The extension that a class of window takes; where the other axis asks for it, any class does.
+fn taken_extension(asked: bool, class: Classified, noisy: Noisy) -> Noisy
+    ensures { λ r. ⌜ r ≡ takes asked class noisy ⌝ }
+{
+    if asked {
+        return noisy;
+    }
     match class {
         Classified::Integrated => noisy,
         Classified::Recorded(_) => Noisy::Absent,
@@ -121,8 +144,37 @@ fn ended_at(duration_s: f32, noisy: Noisy, sweep: SquareSweep, stand: Stand) -> 
     }
 }
 
-// The end of a tick at now_s, its sample stored.
-pub fn close(
+// What the tick at now_s finds, its sample stored.
+pub fn due_at(
+    now_s: f32,
+    end_s: f32,
+    window: Window,
+    rates: &[f32; 2048],
+    moments: &[f32; 2048],
+    held: &[bool; 2048],
+) -> Due
+    ensures { λ r. ⌜ ((offsets : List Float) → r ≡ dueBy (lt «now_s» «end_s») (samplesIn window (now (rates .entry)) (now (moments .entry)) offsets (now (held .entry)))) ⌝ }
+{
+    if now_s < end_s {
+        return Due::Ahead;
+    }
+    Due::Class(recorded::classify(rates, moments, held, window.stored(), window.duration_s))
+}
+
+// Whether an axis asks for the extension.
+pub fn asks(due: Due) -> bool
+    ensures { λ r. ⌜ r ≡ asksOf due ⌝ }
+{
+    match due {
+        Due::Ahead => false,
+        Due::Class(class) => is_integrated(class),
+    }
+}
+
+// The end of a tick whose window has this class.
+fn end_by(
+    class: Classified,
+    asked: bool,
     now_s: f32,
     window: Window,
     end_s: f32,
@@ -130,15 +182,10 @@ pub fn close(
     sweep: SquareSweep,
     rates: &[f32; 2048],
     moments: &[f32; 2048],
-    held: &[bool; 2048],
 ) -> Ending
-    ensures { λ r. ⌜ ((offsets : List Float) → r ≡ closedBy «now_s» «end_s» noisy sweep (samplesIn window (now (rates .entry)) (now (moments .entry)) offsets (now (held .entry)))) ⌝ }
+    ensures { λ r. ⌜ r ≡ endedBy (takes asked class noisy) class «now_s» window «end_s» noisy sweep (now (rates .entry)) (now (moments .entry)) ⌝ }
 {
-    if now_s < end_s {
-        return ended_at(end_s, noisy, sweep, running(now_s));
-    }
-    let class = recorded::classify(rates, moments, held, window.stored(), window.duration_s);
-    let extension = taken_extension(class, noisy);
+    let extension = taken_extension(asked, class, noisy);
     let Noisy::Present(x) = extension else {
         return ended_at(
             end_s,
@@ -153,5 +200,62 @@ pub fn close(
         Noisy::Absent,
         louder,
         stand_at(now_s < x.duration_s, now_s, class, window, rates, moments),
+    )
+}
+
+// The end of a tick by what it finds, and whether the other axis asks for the extension.
+pub fn close_due(
+    due: Due,
+    asked: bool,
+    now_s: f32,
+    window: Window,
+    end_s: f32,
+    noisy: Noisy,
+    sweep: SquareSweep,
+    rates: &[f32; 2048],
+    moments: &[f32; 2048],
+) -> Ending
+    ensures { λ r. ⌜ r ≡ closedDue due asked «now_s» window «end_s» noisy sweep (now (rates .entry)) (now (moments .entry)) ⌝ }
+{
+    let Due::Class(class) = due else {
+        return ended_at(end_s, noisy, sweep, running(now_s));
+    };
+    end_by(
+        class,
+        asked,
+        now_s,
+        window,
+        end_s,
+        noisy,
+        sweep,
+        rates,
+        moments,
+    )
+}
+
+// The end of a tick at now_s of a probe that flies alone, its sample stored.
+pub fn close(
+    now_s: f32,
+    window: Window,
+    end_s: f32,
+    noisy: Noisy,
+    sweep: SquareSweep,
+    rates: &[f32; 2048],
+    moments: &[f32; 2048],
+    held: &[bool; 2048],
+) -> Ending
+    ensures { λ r. ⌜ ((offsets : List Float) → r ≡ closedBy false «now_s» «end_s» noisy sweep (samplesIn window (now (rates .entry)) (now (moments .entry)) offsets (now (held .entry)))) ⌝ }
+{
+    let found = due_at(now_s, end_s, window, rates, moments, held);
+    close_due(
+        found,
+        false,
+        now_s,
+        window,
+        end_s,
+        noisy,
+        sweep,
+        rates,
+        moments,
     )
 }

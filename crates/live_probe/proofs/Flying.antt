@@ -16,7 +16,7 @@ use Rattle.identify.specs.declared.IdentifyProbe.{IdentifyProbe}
 use Rattle.identify.specs.declared.Opened.the-variants as opened
 use Rattle.identify.specs.declared.Stepped.{Stepped}
 use Rattle.identify.specs.declared.Stepped.the-variants.{Offset, Ended, Refused}
-use Rattle.identify.specs.Seen.{seen, freshProbe, openedBy, ticked, answerBy, steppedBy, leaves, replyOf}
+use Rattle.identify.specs.Seen.{seen, freshProbeAt, freshProbe, openedBy, ticked, answerBy, steppedBy, leaves, replyOf}
 use Rattle.identify.specs.Made.{Made, by-new}
 use Rattle.identify.specs.Made as make
 use Rattle.identify.proofs.Stepping.{steps}
@@ -39,7 +39,7 @@ opened-fresh zero c s t e = (refl, ap (λ (o : Opening). o .scalars) e)
 opened-fresh (suc n) c s t e = absurd (let z : 0 ≡ suc n = ap (λ (o : Opening). o .result) e in omega arith)
 
 fresh-back : (c : IdentifyConfig) → probeIn (scalarsOf (freshProbe c)) ≡ freshProbe c
-fresh-back c = back (freshProbe c) (unfold freshProbe in omega arith)
+fresh-back c = back (freshProbe c) (unfold freshProbeAt in omega arith)
 
 -- the probe that is read after a call is the one that the call leaves
 reads : (r : Stepped) (s : Scalars) → leaves r (probeIn s) .window .len ≤ capacity → probeIn (scalarsAfter r s) ≡ leaves r (probeIn s)

@@ -1,6 +1,7 @@
 -- A caller that opens a probe and steps it: what it then keeps is the account's, and what it was answered is the byte run's.
 use Prim.Native.Nat.{ℕ, zero, suc}
 use mathlib.Core.Path.{_≡_}
+use mathlib.Core.Bool.{true}
 use mathlib.Core.List.{List, [], _∷_, _++_, map}
 use lib.Ieee.{Float}
 use Rattle.window.specs.Lent.{Lent, Whole, lent}
@@ -32,7 +33,7 @@ pub data Flown (c : IdentifyConfig) : List Call → List Reply → Live → Type
 
 -- demand 3 of what the caller keeps, and the byte run of the same calls
 pub record Flies (c : IdentifyConfig) (calls : List Call) (answers : List Reply) (k : Live) : Type 0 where
-  pub holds : Holds c calls (liveProbe k) (k .lent) (account (opened c) calls)
+  pub holds : Holds true c calls (liveProbe k) (k .lent) (account (opened c) calls)
   pub answered : answers ≡ replies (fresh c) calls
   -- it writes the report of this probe, and then the words of these answers
   pub run : written c calls ≡ reportBytes (ofProbe (seen (liveProbe k) (k .lent))) ++ wordBytes (map replyWord answers)

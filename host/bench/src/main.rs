@@ -7,10 +7,11 @@ use std::hint::black_box;
 use std::process::ExitCode;
 use std::time::{Duration, Instant};
 
-use library::{ByteRun, Live, LiveProbe, PlainUnits};
-use reference::access::IdentifyProbe;
+use library::{ByteRun, Live, LivePair, LiveProbe, PlainUnits};
+use reference::access::{self, IdentifyProbe};
 use reference::byte_run::{Call, byte_run, calls_of, config_of, word_at, written_len};
 use reference::plain_units::plain_units;
+use reference::two_axis;
 
 const DT_S: f32 = 0.004;
 
@@ -97,7 +98,7 @@ struct StepTimes {
 }
 
 /// Calls one after the other, from native floats to native offsets; the time of all in s.
-fn time_calls(calls: &[Call], offsets: &mut [f32], mut step: impl FnMut(Call, &mut f32)) -> f64 {
+fn time_calls<C: Copy, O>(calls: &[C], offsets: &mut [O], mut step: impl FnMut(C, &mut O)) -> f64 {
     let start = Instant::now();
     for (call, offset) in black_box(calls).iter().zip(&mut *offsets) {
         step(*call, offset);
@@ -139,13 +140,83 @@ fn step_times(run: &Run, library: ByteRun, live: Live, repetitions: usize) -> Ve
             }
         })
         .collect();
-    let bits = |offsets: &[f32]| {
-        offsets
-            .iter()
-            .map(|offset| offset.to_bits())
-            .collect::<Vec<_>>()
-    };
     assert_eq!(bits(&ours), bits(&theirs), "the offsets differ");
+    times
+}
+
+fn bits(offsets: &[f32]) -> Vec<u32> {
+    offsets.iter().map(|offset| offset.to_bits()).collect()
+}
+
+/// The calls of two axes, of which the second reads what the first has read a tick before.
+fn two_axis_calls(run: &Run) -> Vec<[f32; 5]> {
+    let calls: Vec<Call> = calls_of(&run.calls).collect();
+    let before = [calls[0]].into_iter().chain(calls.iter().copied());
+    calls
+        .iter()
+        .zip(before)
+        .map(|(one, other)| [one.dt, one.rate, one.moment, other.rate, other.moment])
+        .collect()
+}
+
+/// A live step of two axes, called as [`live_step`] is.
+fn live_pair_step(pair: &mut [LiveProbe; 2], call: [f32; 5], offsets: &mut [f32; 2]) {
+    if let Some(live) = library::LIVE_PAIR {
+        (live.step)(pair, call, offsets);
+    }
+}
+
+/// The three times of the steps of two axes, where the reference's is that of two steps of the Rust's
+/// own; the offsets are compared.
+fn two_axis_times(
+    run: &Run,
+    library: ByteRun,
+    live: LivePair,
+    repetitions: usize,
+) -> Vec<StepTimes> {
+    let calls = two_axis_calls(run);
+    let both = Run {
+        config: run.config.clone(),
+        calls: calls
+            .iter()
+            .flatten()
+            .flat_map(|value| value.to_bits().to_be_bytes())
+            .collect(),
+    };
+    let config = std::array::from_fn(|place| word_at(&run.config, place));
+    let mut output = vec![0; two_axis::written_len(calls.len())];
+    let [mut ours, mut theirs] = [(); 2].map(|()| vec![[0.0f32; 2]; calls.len()]);
+    let per = calls.len() as f64;
+    let mut pair = Box::new([LiveProbe::ZERO, LiveProbe::ZERO]);
+    let times = (0..repetitions)
+        .map(|_| {
+            assert_eq!((live.open)(&mut pair, &config, 0), 0, "open");
+            let live = time_calls(&calls, &mut ours, |call, offsets| {
+                live_pair_step(&mut pair, call, offsets);
+            });
+            let byte_run = both.time(library, &mut output).as_secs_f64();
+            let config = config_of(&run.config);
+            let mut first = Box::new(IdentifyProbe::new(config));
+            let mut second = Box::new(access::starting_low(config));
+            let reference = time_calls(&calls, &mut theirs, |call, offsets| {
+                let [dt, rate_1, moment_1, rate_2, moment_2] = call;
+                *offsets = [
+                    first.step(dt, rate_1, moment_1),
+                    second.step(dt, rate_2, moment_2),
+                ];
+            });
+            StepTimes {
+                reference: reference / per,
+                live: live / per,
+                byte_run: byte_run / per,
+            }
+        })
+        .collect();
+    let written: Vec<u32> = (0..2 * calls.len())
+        .map(|place| word_at(&output[two_axis::REPORT_LEN..], place))
+        .collect();
+    assert_eq!(bits(ours.as_flattened()), written, "the offsets differ");
+    assert_eq!(bits(theirs.as_flattened()), written, "the offsets differ");
     times
 }
 
@@ -216,9 +287,13 @@ fn ending(ticks: usize, noise: f32) -> Run {
 }
 
 fn main() -> ExitCode {
-    let (Some(library), Some(units), Some(live)) =
-        (library::BYTE_RUN, library::PLAIN_UNITS, library::LIVE)
-    else {
+    let (Some(library), Some(units), Some(live), Some(two_axis_run), Some(live_pair)) = (
+        library::BYTE_RUN,
+        library::PLAIN_UNITS,
+        library::LIVE,
+        library::TWO_AXIS_RUN,
+        library::LIVE_PAIR,
+    ) else {
         eprintln!("bench: set IDENTIFY_LIB to the static library and build again (host/README.md)");
         return ExitCode::from(2);
     };
@@ -256,6 +331,14 @@ fn main() -> ExitCode {
     step_lines(
         "a live step while storing, of 2,048",
         &step_times(&full, library, live, 501),
+    );
+    step_lines(
+        "a two-axis step while running, of 200,000",
+        &two_axis_times(&running, two_axis_run, live_pair, 51),
+    );
+    step_lines(
+        "a two-axis step while storing, of 2,048",
+        &two_axis_times(&full, two_axis_run, live_pair, 501),
     );
     let count = 10_000;
     line(

@@ -1,18 +1,21 @@
 //! One list through the reference and through the subject.
 
 use library::PlainUnits;
-use lists::Family;
 use lists::random::Random;
-use reference::checked::{Answer, checked_run};
+use lists::{FAMILIES, Family, TWO_AXIS_FAMILIES};
+use reference::account::Taken;
+use reference::checked::{Answer, checked_run, checked_two_axis_run};
 use reference::plain_units::{UNITS_LEN, plain_units};
 use reference::probe::REPORT_LEN;
 
+use crate::axes::Axes;
 use crate::live::{Course, Flight, Part};
 use crate::subject::Subject;
 
 /// The inputs of a byte run, and of the live functions.
 #[derive(Clone, Debug, PartialEq)]
 pub struct Input {
+    pub axes: Axes,
     pub config: Vec<u8>,
     pub calls: Vec<u8>,
     pub output_len: usize,
@@ -20,20 +23,39 @@ pub struct Input {
     pub memory: u64,
 }
 
+/// The families of lists.
+pub fn families(axes: Axes) -> &'static [Family] {
+    match axes {
+        Axes::One => &FAMILIES,
+        Axes::Two => &TWO_AXIS_FAMILIES,
+    }
+}
+
 impl Input {
     /// List `number` of `seed`, of one family alone where it is named; and its family.
-    pub fn numbered(family: Option<&Family>, seed: u64, number: u64) -> (&'static str, Input) {
+    pub fn numbered(
+        axes: Axes,
+        family: Option<&Family>,
+        seed: u64,
+        number: u64,
+    ) -> (&'static str, Input) {
         let list = match family {
-            None => lists::list(seed, number),
+            None => lists::list_in(families(axes), seed, number),
             Some(family) => lists::of_family(family, seed, number),
         };
         let input = Input {
+            axes,
             config: list.config,
             calls: list.calls,
             output_len: list.output_len,
             memory: Random::numbered(!seed, number).bits(),
         };
         (list.family, input)
+    }
+
+    /// The number of its calls.
+    pub fn count(&self) -> usize {
+        self.calls.len() / self.axes.call_len()
     }
 }
 
@@ -64,15 +86,16 @@ fn untouched(len: usize) -> Vec<u8> {
 #[derive(Clone, Debug, PartialEq)]
 pub struct Answers {
     pub run: Returned,
+    /// None of a refused run; of two axes the flight tells them.
     pub units: Option<Returned>,
     /// None where the byte run's sizes are wrong.
     pub flight: Option<Flight>,
 }
 
 impl Answers {
-    /// The answers of a run; one that is refused has no report.
-    fn of(run: Returned, plain_units: PlainUnits, flight: Option<Flight>) -> Answers {
-        let report = run.output.get(..REPORT_LEN).filter(|_| run.result == 0);
+    fn of(axes: Axes, run: Returned, plain_units: PlainUnits, flight: Option<Flight>) -> Answers {
+        let has_units = run.result == 0 && axes == Axes::One;
+        let report = run.output.get(..REPORT_LEN).filter(|_| has_units);
         let units =
             report.map(|report| Returned::by(UNITS_LEN, |output| plain_units(report, output)));
         Answers { run, units, flight }
@@ -81,8 +104,10 @@ impl Answers {
 
 /// Both programs' answers to a list.
 pub struct Compared {
-    /// What the reference's are.
-    pub answer: Answer,
+    /// What the reference's are, for each axis.
+    pub axes: Vec<Answer>,
+    /// How the first of two axes took the extension.
+    pub taken: Option<Taken>,
     pub expected: Answers,
     pub found: Answers,
 }
@@ -100,7 +125,7 @@ impl Compared {
     }
 }
 
-/// The reference's answer to a list, and what its byte run returns.
+/// The reference's answer to a list of one axis, and what its byte run returns.
 pub fn reference_run(input: &Input) -> (Answer, Returned) {
     let mut output = untouched(input.output_len);
     let answer = checked_run(&input.config, &input.calls, &mut output);
@@ -108,22 +133,47 @@ pub fn reference_run(input: &Input) -> (Answer, Returned) {
     (answer, Returned { result, output })
 }
 
+/// The reference's answers for each axis, how the extension was taken, and what the byte run returns.
+fn reference_answers(input: &Input) -> (Vec<Answer>, Option<Taken>, Returned) {
+    match input.axes {
+        Axes::One => {
+            let (answer, run) = reference_run(input);
+            (vec![answer], None, run)
+        }
+        Axes::Two => {
+            let mut output = untouched(input.output_len);
+            let answer = checked_two_axis_run(&input.config, &input.calls, &mut output);
+            let result = answer.result;
+            let run = Returned { result, output };
+            (answer.axes.into(), answer.taken, run)
+        }
+    }
+}
+
 /// The reference's and the subject's answers.
 pub fn compared(subject: Subject, input: &Input) -> Compared {
-    let (answer, run) = reference_run(input);
+    let Input {
+        axes,
+        config,
+        calls,
+        output_len,
+        ..
+    } = input;
+    let (answers, taken, run) = reference_answers(input);
     let (flight, found_flight) = Course::of(input, &run)
         .map(|course| {
-            let expected = course.expected(answer.window.as_ref());
-            (expected, course.flown(subject.live))
+            let expected = course.expected(&answers);
+            (expected, course.flown(subject.craft(*axes)))
         })
         .unzip();
-    let expected = Answers::of(run, plain_units, flight);
-    let run = Returned::by(input.output_len, |output| {
-        (subject.byte_run)(&input.config, &input.calls, output)
+    let expected = Answers::of(*axes, run, plain_units, flight);
+    let run = Returned::by(*output_len, |output| {
+        (subject.run(*axes))(config, calls, output)
     });
-    let found = Answers::of(run, subject.plain_units, found_flight);
+    let found = Answers::of(*axes, run, subject.plain_units, found_flight);
     Compared {
-        answer,
+        axes: answers,
+        taken,
         expected,
         found,
     }

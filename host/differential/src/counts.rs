@@ -4,8 +4,19 @@ use std::collections::BTreeMap;
 
 use reference::checked::{Answer, Ending};
 
+use crate::compare::{Compared, Input};
 use crate::lag::Lag;
 use crate::live::{Flight, turned_back};
+
+/// What a run of lists counts.
+pub trait Tally {
+    fn add(&mut self, family: &'static str, input: &Input, both: &Compared);
+
+    /// What has been done of `all` lists.
+    fn progress(&self, all: u64) -> String;
+
+    fn print(&self);
+}
 
 #[derive(Default)]
 pub struct Counts {
@@ -22,14 +33,29 @@ pub struct Counts {
     rounds: BTreeMap<u32, u64>,
     turned_back: [u64; 3],
     extended: u64,
-    /// Opened with the live functions, refused too.
-    flights: u64,
-    /// Calls of the flights, those turned back, and looks at report and status.
-    flown: [u64; 3],
+    flights: Flights,
+}
+
+impl Tally for Counts {
+    fn add(&mut self, family: &'static str, input: &Input, both: &Compared) {
+        for answer in &both.axes {
+            self.add_answer(family, input.count(), answer);
+        }
+        self.flights.add(input, both);
+    }
+
+    fn progress(&self, all: u64) -> String {
+        let (lists, integrated) = (self.lists, self.integrated());
+        format!("{lists} of {all} lists, {integrated} integrated")
+    }
+
+    fn print(&self) {
+        self.print_all();
+    }
 }
 
 impl Counts {
-    pub fn add(&mut self, family: &'static str, calls: usize, answer: &Answer) {
+    fn add_answer(&mut self, family: &'static str, calls: usize, answer: &Answer) {
         self.lists += 1;
         self.calls += calls as u64;
         *self
@@ -67,21 +93,7 @@ impl Counts {
         self.extended += u64::from(answer.extended);
     }
 
-    /// Adds a flight with the live functions that was compared.
-    pub fn add_flight(&mut self, flight: &Flight) {
-        self.flights += 1;
-        let back = flight.words.iter().filter(|word| turned_back(**word));
-        let counts = [flight.words.len(), back.count(), flight.looks.len()];
-        for (sum, count) in self.flown.iter_mut().zip(counts) {
-            *sum += count as u64;
-        }
-    }
-
-    pub fn lists(&self) -> u64 {
-        self.lists
-    }
-
-    pub fn integrated(&self) -> u64 {
+    fn integrated(&self) -> u64 {
         let endings = self.families.values().flatten();
         endings
             .filter(|(ending, _)| ending.integrated())
@@ -90,7 +102,7 @@ impl Counts {
     }
 
     /// The table, families down and endings across, then the rest.
-    pub fn print(&self) {
+    fn print_all(&self) {
         println!("lists per family and ending:");
         for (family, endings) in &self.families {
             let total: u64 = endings.values().sum();
@@ -129,6 +141,34 @@ impl Counts {
             self.integrated()
         );
         println!("{} lists, {} calls", self.lists, self.calls);
+        self.flights.print();
+    }
+}
+
+/// The flights with the live functions.
+#[derive(Default)]
+pub struct Flights {
+    /// Opened, refused too.
+    flights: u64,
+    /// Their calls, those turned back, and looks at report and status.
+    flown: [u64; 3],
+}
+
+impl Flights {
+    pub fn add(&mut self, input: &Input, both: &Compared) {
+        let Some(Flight { words, looks, .. }) = &both.found.flight else {
+            return;
+        };
+        self.flights += 1;
+        let calls = words.iter().step_by(input.axes.count());
+        let back = calls.clone().filter(|word| turned_back(**word));
+        let counts = [calls.len(), back.count(), looks.len()];
+        for (sum, count) in self.flown.iter_mut().zip(counts) {
+            *sum += count as u64;
+        }
+    }
+
+    pub fn print(&self) {
         let [calls, back, looks] = self.flown;
         println!(
             "live: {} lists flown, {calls} calls compared, {back} of them turned back with the probe as it \

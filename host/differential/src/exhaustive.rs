@@ -2,6 +2,7 @@
 
 use lists::{Call, Config, call_bytes};
 
+use crate::axes::Axes;
 use crate::compare::Input;
 
 const LONGEST: u32 = 5;
@@ -93,6 +94,7 @@ pub fn inputs() -> impl Iterator<Item = Input> {
                 let letter = |place| ALPHABET[number / size.pow(place) % size];
                 let calls: Vec<Call> = (0..length).map(letter).collect();
                 Input {
+                    axes: Axes::One,
                     config: config.bytes(),
                     calls: call_bytes(&calls),
                     output_len: 36 + 4 * calls.len(),
@@ -104,29 +106,22 @@ pub fn inputs() -> impl Iterator<Item = Input> {
 }
 
 /// One list with as many ticks as a probe takes, and then calls that 8, 7 and 6 turn back.
-pub fn last_tick() -> Input {
-    let mut calls = vec![
-        Call {
-            dt: 1e-30,
-            rate: 0.0,
-            moment: 0.0
-        };
-        16_777_217
-    ];
-    calls.push(Call {
-        dt: 5000.0,
-        rate: 0.0,
-        moment: 0.0,
-    });
-    calls.push(Call {
-        dt: 0.0,
-        rate: 0.0,
-        moment: 0.0,
-    });
+pub fn last_tick(axes: Axes) -> Input {
+    let ticks = std::iter::repeat_n(1e-30, 16_777_217);
+    let call = |dt: f32| {
+        let readings = std::iter::repeat_n(0.0, 2 * axes.count());
+        std::iter::once(dt).chain(readings)
+    };
+    let calls: Vec<u8> = ticks
+        .chain([5000.0, 0.0])
+        .flat_map(call)
+        .flat_map(f32::to_be_bytes)
+        .collect();
     Input {
+        axes,
         config: CONFIGS[0].bytes(),
-        calls: call_bytes(&calls),
-        output_len: 36 + 4 * calls.len(),
+        output_len: axes.written_len(calls.len() / axes.call_len()),
+        calls,
         memory: 0,
     }
 }

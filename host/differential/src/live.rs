@@ -2,13 +2,16 @@
 
 use std::collections::BTreeSet;
 
-use library::{Live, LiveProbe, LiveStatus, WINDOW};
+use library::{LiveProbe, LiveStatus, WINDOW};
 use lists::random::Random;
-use reference::access::Samples;
-use reference::byte_run::{Call, calls_of, config_of, word_at};
+use reference::access::{IdentifyConfig, Samples};
+use reference::byte_run::{calls_of, config_of, word_at};
+use reference::checked::Answer;
 use reference::plain_units::{UNITS_LEN, plain_units};
 use reference::probe::{Probe, REPORT_LEN};
+use reference::two_axis::{self, TwoAxis};
 
+use crate::axes::{Axes, Craft};
 use crate::compare::{Input, Returned};
 
 /// What the live functions answer to a list.
@@ -16,22 +19,22 @@ use crate::compare::{Input, Returned};
 pub struct Flight {
     /// What `open` answers to options without a meaning, and to none.
     pub opened: [u32; 2],
-    /// A word for each call, as the byte run writes it.
+    /// A word for each call and axis, as the byte run writes it.
     pub words: Vec<u32>,
     /// What is seen at some places.
     pub looks: Vec<Look>,
-    /// The rates, moments, offsets and marks that are stored at the end.
-    pub window: [Vec<u32>; 4],
+    /// The rates, moments, offsets and marks of each axis that are stored at the end.
+    pub windows: Vec<[Vec<u32>; 4]>,
     /// What was written where nothing may be.
     pub written: Vec<String>,
 }
 
-/// The report and the status after a number of calls.
+/// The report, and the status of each axis, after a number of calls.
 #[derive(Clone, Debug, PartialEq)]
 pub struct Look {
     pub calls: usize,
-    pub report: [u8; REPORT_LEN],
-    pub status: Status,
+    pub report: Vec<u8>,
+    pub statuses: Vec<Status>,
 }
 
 /// The five numbers of a status, the bits of its six floats, and those of its plain units.
@@ -55,7 +58,7 @@ impl Flight {
             (Part::Written, self.written != found.written),
             (Part::Words, self.words != found.words),
             (Part::Looks, self.looks != found.looks),
-            (Part::Window, self.window != found.window),
+            (Part::Window, self.windows != found.windows),
         ]
         .iter()
         .find_map(|(part, differs)| differs.then_some(*part))
@@ -88,8 +91,8 @@ pub fn turned_back(word: u32) -> bool {
     (6..=8).contains(&word.wrapping_sub(float::NAN_BITS))
 }
 
-/// The status that goes with a report.
-fn status_of(report: &[u8; REPORT_LEN]) -> Status {
+/// The status that goes with a report of one axis.
+fn status_of(report: &[u8]) -> Status {
     let mut units = [0; UNITS_LEN];
     plain_units(report, &mut units);
     let head = u32::from(report[0]);
@@ -124,24 +127,73 @@ fn status_bits(status: &LiveStatus) -> Status {
     std::array::from_fn(|_| words.next().expect("13 words"))
 }
 
-/// Report and status by the live functions.
-pub fn look(live: Live, probe: &LiveProbe, calls: usize) -> Look {
-    let mut report = [0xa5; REPORT_LEN];
-    (live.report)(probe, &mut report);
+/// Report and statuses by the live functions.
+pub fn look(craft: Craft, probes: &[LiveProbe], calls: usize) -> Look {
+    let mut report = vec![0xa5; craft.axes().report_len()];
+    craft.report(probes, &mut report);
+    let status = |probe| status_bits(&craft.status(probe));
     Look {
         calls,
         report,
-        status: status_bits(&(live.status)(probe)),
+        statuses: probes.iter().map(status).collect(),
     }
 }
 
-/// A probe's memory of any bytes.
-pub fn any_memory(random: &mut Random) -> Box<LiveProbe> {
-    let mut probe = Box::new(LiveProbe::ZERO);
-    for part in probe.bytes_mut().chunks_exact_mut(8) {
-        part.copy_from_slice(&random.bits().to_ne_bytes());
+/// The memory of probes, of any bytes.
+pub fn any_memory(random: &mut Random, axes: Axes) -> Vec<LiveProbe> {
+    let mut probes = vec![LiveProbe::ZERO; axes.count()];
+    for probe in &mut probes {
+        for part in probe.bytes_mut().chunks_exact_mut(8) {
+            part.copy_from_slice(&random.bits().to_ne_bytes());
+        }
     }
-    probe
+    probes
+}
+
+/// Takes the bytes of other probes.
+pub fn copy(probes: &mut [LiveProbe], from: &[LiveProbe]) {
+    for (probe, from) in probes.iter_mut().zip(from) {
+        probe.copy_from(from);
+    }
+}
+
+/// The reference's flight of a list.
+enum Flown {
+    One(Box<Probe>),
+    Two(Box<TwoAxis>),
+}
+
+impl Flown {
+    /// A flight of a configuration that no rule turns back.
+    fn new(axes: Axes, config: IdentifyConfig) -> Flown {
+        let made = match axes {
+            Axes::One => Probe::new(config).map(|probe| Flown::One(Box::new(probe))),
+            Axes::Two => TwoAxis::new(config).map(|flight| Flown::Two(Box::new(flight))),
+        };
+        made.expect("a good configuration")
+    }
+
+    fn fly(&mut self, calls: &[u8]) {
+        match self {
+            Flown::One(probe) => {
+                for call in calls_of(calls) {
+                    probe.step(call.dt, call.rate, call.moment).ok();
+                }
+            }
+            Flown::Two(flight) => {
+                for calls in two_axis::calls_of(calls) {
+                    flight.step(calls).ok();
+                }
+            }
+        }
+    }
+
+    fn report(&self) -> Vec<u8> {
+        match self {
+            Flown::One(probe) => probe.report().bytes().to_vec(),
+            Flown::Two(flight) => flight.report().to_vec(),
+        }
+    }
 }
 
 /// What the reference says of a list's calls.
@@ -149,8 +201,10 @@ pub struct Course<'a> {
     input: &'a Input,
     result: u32,
     report: &'a [u8],
+    /// A word for each call and axis.
     words: Vec<u32>,
-    calls: Vec<Call>,
+    /// The floats of all calls.
+    floats: Vec<f32>,
     /// The calls that read the marks: the one that reaches the duration, and the one that ends the
     /// probe.
     reads: BTreeSet<usize>,
@@ -164,50 +218,69 @@ impl<'a> Course<'a> {
         if run.result == 9 {
             return None;
         }
+        let axes = input.axes;
         let mut course = Course {
             input,
             result: run.result,
-            report: &run.output[..REPORT_LEN],
+            report: &run.output[..axes.report_len()],
             words: Vec::new(),
-            calls: Vec::new(),
+            floats: Vec::new(),
             reads: BTreeSet::new(),
             ending: None,
         };
         if run.result == 0 {
-            course.calls = calls_of(&input.calls).collect();
-            course.words = (0..course.calls.len())
-                .map(|call| word_at(&run.output[REPORT_LEN..], call))
-                .collect();
+            let words = |bytes: &[u8]| {
+                (0..bytes.len() / 4)
+                    .map(|place| word_at(bytes, place))
+                    .collect()
+            };
+            let written = axes.report_len()..axes.written_len(input.count());
+            course.words = words(&run.output[written]);
+            let bits: Vec<u32> = words(&input.calls);
+            course.floats = bits.into_iter().map(f32::from_bits).collect();
             course.find_reads();
         }
         Some(course)
     }
 
+    /// The floats of each call.
+    fn calls(&self) -> impl ExactSizeIterator<Item = &[f32]> {
+        self.floats.chunks_exact(self.input.axes.call_len() / 4)
+    }
+
+    /// Whether a call is turned back, for all axes.
+    fn turned_back(&self, call: usize) -> bool {
+        turned_back(self.words[self.input.axes.count() * call])
+    }
+
     /// Finds the calls that read the marks: a probe that goes on into an extension reads them twice.
+    /// Of two axes each reads them where the other does.
     fn find_reads(&mut self) {
         let duration_s = config_of(&self.input.config).duration_s;
         let head = self.report[..8].try_into().expect("eight bytes");
         let ticks = (u64::from_be_bytes(head) >> 31 & 0x1ff_ffff) as usize;
         let ended = self.report[0] >> 6 != 0;
-        let accepted = (0..self.calls.len()).filter(|call| !turned_back(self.words[*call]));
-        let mut elapsed_s = 0.0;
-        for (tick, call) in accepted.take(ticks).enumerate() {
-            let before_s = elapsed_s;
-            elapsed_s += self.calls[call].dt;
-            if before_s < duration_s && elapsed_s >= duration_s {
-                self.reads.insert(call);
+        let (mut elapsed_s, mut tick) = (0.0, 0);
+        let mut reads = BTreeSet::new();
+        for (number, call) in self.calls().enumerate() {
+            if tick == ticks || self.turned_back(number) {
+                continue;
             }
-            if ended && tick + 1 == ticks {
-                self.reads.insert(call);
-                self.ending = Some(call);
+            tick += 1;
+            let before_s = elapsed_s;
+            elapsed_s += call[0];
+            if before_s < duration_s && elapsed_s >= duration_s || ended && tick == ticks {
+                reads.insert(number);
             }
         }
+        self.ending = reads.last().copied().filter(|_| ended);
+        self.reads = reads;
     }
 
     /// The numbers of calls after which a flight is looked at: none, all, two of any, and those before
     /// and after a call that reads the marks.
     fn places(&self) -> BTreeSet<usize> {
-        let all = self.calls.len();
+        let all = self.calls().len();
         let mut random = Random::new(self.input.memory);
         let any = [(); 2].map(|()| random.between(0, all));
         let reads = self.reads.iter().flat_map(|call| [*call, call + 1]);
@@ -216,51 +289,52 @@ impl<'a> Course<'a> {
 
     /// What the reference shows at each place.
     fn looks(&self) -> Vec<Look> {
-        let mut probe = Probe::new(config_of(&self.input.config)).expect("a good configuration");
+        let Input { axes, calls, .. } = self.input;
+        let mut flown = Flown::new(*axes, config_of(&self.input.config));
         let mut made = 0;
-        let look = |calls| {
-            let ended = self.ending.is_some_and(|ending| ending < calls);
-            let report = if ended || calls == self.calls.len() {
-                self.report.try_into().expect("a report")
+        let look = |place| {
+            let ended = self.ending.is_some_and(|ending| ending < place);
+            let report = if ended || place == self.calls().len() {
+                self.report.to_vec()
             } else {
-                for call in &self.calls[made..calls] {
-                    probe.step(call.dt, call.rate, call.moment).ok();
-                }
-                made = calls;
-                probe.report().bytes()
+                flown.fly(&calls[axes.call_len() * made..axes.call_len() * place]);
+                made = place;
+                flown.report()
             };
+            let reports = report.chunks_exact(REPORT_LEN).take(axes.count());
+            let statuses = reports.map(status_of).collect();
             Look {
-                calls,
+                calls: place,
                 report,
-                status: status_of(&report),
+                statuses,
             }
         };
         self.places().into_iter().map(look).collect()
     }
 
-    /// What a flight has to answer.
-    pub fn expected(&self, window: Option<&Samples>) -> Flight {
+    /// What a flight has to answer, by the reference's answers for each axis.
+    pub fn expected(&self, axes: &[Answer]) -> Flight {
         let mut flight = Flight {
             opened: [9, self.result],
             words: self.words.clone(),
             ..Flight::default()
         };
-        if let Some(samples) = window {
-            let held = samples.held.iter().map(|held| u32::from(*held));
-            flight.window = window_bits([&samples.rates, &samples.moments, &samples.offsets], held);
+        if self.result == 0 {
+            let windows = axes.iter().filter_map(|axis| axis.window.as_ref());
+            flight.windows = windows.map(stored_bits).collect();
             flight.looks = self.looks();
         }
         flight
     }
 
     /// What the live functions answer.
-    pub fn flown(&self, live: Live) -> Flight {
+    pub fn flown(&self, craft: Craft) -> Flight {
         let mut random = Random::new(self.input.memory);
-        let probe = any_memory(&mut random);
+        let probes = any_memory(&mut random, self.input.axes);
         let mut pilot = Pilot {
-            live,
-            before: probe.clone(),
-            probe,
+            craft,
+            before: probes.clone(),
+            probes,
             flight: Flight::default(),
         };
         let config = std::array::from_fn(|place| word_at(&self.input.config, place));
@@ -271,23 +345,23 @@ impl<'a> Course<'a> {
             return pilot.flight;
         }
         let places = self.places();
-        for (number, call) in self.calls.iter().enumerate() {
+        for (number, call) in self.calls().enumerate() {
             let looked = places.contains(&number);
             if looked {
                 pilot.look(number);
             }
-            let values = [call.dt, call.rate, call.moment];
-            let offset = f32::from_bits(any.wrapping_add(number as u32));
-            if turned_back(self.words[number]) {
-                pilot.turned_back(values, offset);
+            let offset = any.wrapping_add(number as u32);
+            let offsets = [offset, !offset].map(f32::from_bits);
+            if self.turned_back(number) {
+                pilot.turned_back(call, offsets);
             } else {
                 if looked {
-                    pilot.ready(call.dt, self.reads.contains(&number));
+                    pilot.ready(call[0], self.reads.contains(&number));
                 }
-                pilot.step(values, offset);
+                pilot.step(call, offsets);
             }
         }
-        pilot.look(self.calls.len());
+        pilot.look(self.calls().len());
         pilot.report_beside();
         pilot.landed()
     }
@@ -295,29 +369,32 @@ impl<'a> Course<'a> {
 
 /// Flies a list, and looks for bytes written where none may be.
 struct Pilot {
-    live: Live,
-    probe: Box<LiveProbe>,
-    /// The probe's bytes as they have to stay.
-    before: Box<LiveProbe>,
+    craft: Craft,
+    probes: Vec<LiveProbe>,
+    /// The probes' bytes as they have to stay.
+    before: Vec<LiveProbe>,
     flight: Flight,
 }
 
 impl Pilot {
-    /// Notes bytes of the probe that are not as they have to be.
+    /// Notes bytes of the probes that are not as they have to be.
     fn note(&mut self, when: &str) {
-        self.flight
-            .note(when, self.before.bytes(), self.probe.bytes());
+        for (axis, (before, probe)) in self.before.iter().zip(&self.probes).enumerate() {
+            let when = format!("{when}, axis {}", axis + 1);
+            self.flight.note(&when, before.bytes(), probe.bytes());
+        }
     }
 
     fn open(&mut self, config: &[u32; 6], options: u32) {
-        let open = self.live.open;
-        let odd = open(&mut self.probe, config, options);
+        let odd = self.craft.open(&mut self.probes, config, options);
         self.note("by open with options");
-        let opened = open(&mut self.probe, config, 0);
+        let opened = self.craft.open(&mut self.probes, config, 0);
         self.flight.opened = [odd, opened];
         if opened == 0 {
             let scalars = ..LiveProbe::SCALARS;
-            self.before.bytes_mut()[scalars].copy_from_slice(&self.probe.bytes()[scalars]);
+            for (before, probe) in self.before.iter_mut().zip(&self.probes) {
+                before.bytes_mut()[scalars].copy_from_slice(&probe.bytes()[scalars]);
+            }
             self.note("in the window by open");
         } else {
             self.note("by a refused open");
@@ -325,65 +402,75 @@ impl Pilot {
     }
 
     fn look(&mut self, calls: usize) {
-        self.before.copy_from(&self.probe);
-        self.flight.looks.push(look(self.live, &self.probe, calls));
+        copy(&mut self.before, &self.probes);
+        self.flight
+            .looks
+            .push(look(self.craft, &self.probes, calls));
         self.note("by report or status");
     }
 
     /// Reports into outputs that are too short and too long by a byte.
     fn report_beside(&mut self) {
-        let [mut short, mut long] = [(); 2].map(|()| [0xa5; REPORT_LEN + 1]);
-        (self.live.report)(&self.probe, &mut short[..REPORT_LEN - 1]);
-        (self.live.report)(&self.probe, &mut long);
-        let untouched = [0xa5; REPORT_LEN + 1];
+        let len = self.craft.axes().report_len();
+        let untouched = vec![0xa5; len + 1];
+        let [mut short, mut long] = [(); 2].map(|()| untouched.clone());
+        self.craft.report(&self.probes, &mut short[..len - 1]);
+        self.craft.report(&self.probes, &mut long);
         self.flight
-            .note("by a report into 35 bytes", &untouched, &short);
-        self.flight.note(
-            "past a report",
-            &untouched[REPORT_LEN..],
-            &long[REPORT_LEN..],
-        );
+            .note("by a report into too few bytes", &untouched, &short);
+        self.flight
+            .note("past a report", &untouched[len..], &long[len..]);
     }
 
     /// `ready`, before a call that reads the marks or not, after a look.
     fn ready(&mut self, dt: f32, reads: bool) {
         if reads {
-            self.before.make_marks_plain();
+            self.before.iter_mut().for_each(LiveProbe::make_marks_plain);
         }
-        (self.live.ready)(&mut self.probe, dt);
+        self.craft.ready(&mut self.probes, dt);
         self.note("by ready");
     }
 
-    /// A call, over what the offset's place holds; the place after it.
-    fn step(&mut self, values: [f32; 3], mut offset: f32) -> f32 {
-        let number = (self.live.step)(&mut self.probe, values, &mut offset);
-        self.flight.words.push(answer_word(number, offset));
-        offset
+    /// A call, over what the offsets' places hold; the places after it.
+    fn step(&mut self, call: &[f32], mut offsets: [f32; 2]) -> [f32; 2] {
+        let number = self.craft.step(&mut self.probes, call, &mut offsets);
+        let answered = offsets.iter().take(self.craft.axes().count());
+        self.flight
+            .words
+            .extend(answered.map(|offset| answer_word(number, *offset)));
+        offsets
     }
 
     /// A call that has to be turned back.
-    fn turned_back(&mut self, values: [f32; 3], offset: f32) {
-        self.before.copy_from(&self.probe);
-        let after = self.step(values, offset);
+    fn turned_back(&mut self, call: &[f32], offsets: [f32; 2]) {
+        copy(&mut self.before, &self.probes);
+        let after = self.step(call, offsets);
         self.note("by a refused call");
-        self.flight.note(
-            "at the offset of a refused call",
-            &offset.to_bits().to_be_bytes(),
-            &after.to_bits().to_be_bytes(),
-        );
+        let [before, after] =
+            [offsets, after].map(|offsets| offsets.map(f32::to_ne_bytes).concat());
+        self.flight
+            .note("at the offset of a refused call", &before, &after);
     }
 
-    /// The flight, with the window that it leaves.
+    /// The flight, with the windows that it leaves.
     fn landed(self) -> Flight {
-        let probe = &self.probe;
-        let stored = WINDOW.min(probe.words[3] as usize);
-        let floats = [&probe.rates, &probe.moments, &probe.offsets];
-        let held = probe.held[..stored].iter().map(|mark| u32::from(*mark));
+        let window = |probe: &LiveProbe| {
+            let stored = WINDOW.min(probe.words[3] as usize);
+            let floats = [&probe.rates, &probe.moments, &probe.offsets];
+            let held = probe.held[..stored].iter().map(|mark| u32::from(*mark));
+            window_bits(floats.map(|part| &part[..stored]), held)
+        };
         Flight {
-            window: window_bits(floats.map(|part| &part[..stored]), held),
+            windows: self.probes.iter().map(window).collect(),
             ..self.flight
         }
     }
+}
+
+/// The words of the samples that are stored.
+fn stored_bits(samples: &Samples) -> [Vec<u32>; 4] {
+    let held = samples.held.iter().map(|held| u32::from(*held));
+    window_bits([&samples.rates, &samples.moments, &samples.offsets], held)
 }
 
 /// The words of a window: rates, moments, offsets and marks.

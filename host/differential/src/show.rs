@@ -1,7 +1,7 @@
 //! Prints a difference.
 
 use crate::compare::{Compared, Input, Returned, compared};
-use crate::live::{Flight, Look, Part};
+use crate::live::{Flight, Look, Part, Status};
 use crate::shrink::shrunk;
 use crate::subject::Subject;
 
@@ -16,12 +16,9 @@ pub fn smallest(subject: Subject, input: Input, both: Compared) {
     }
     let input = shrunk(subject, input);
     let both = compared(subject, &input);
-    println!(
-        "the smallest input found has {} calls:",
-        input.calls.len() / 12
-    );
+    println!("the smallest input found has {} calls:", input.count());
     println!("configuration {}", hex(&input.config));
-    for call in input.calls.chunks(12) {
+    for call in input.calls.chunks(input.axes.call_len()) {
         println!("call          {}", hex(call));
     }
     println!("output length {}", input.output_len);
@@ -58,25 +55,29 @@ fn flights(expected: &Flight, found: &Flight) {
         ),
         Some(Part::Words) => {
             let [reference, subject] = [&expected.words, &found.words];
-            first(reference, subject, "call", |word| format!("{word:08X}"));
+            first(reference, subject, "word", |word| format!("{word:08X}"));
         }
         Some(Part::Looks) => first(&expected.looks, &found.looks, "look", |look| {
             let Look {
                 calls,
                 report,
-                status,
+                statuses,
             } = look;
-            let status = status.map(u32::to_be_bytes).concat();
+            let status = |status: &Status| hex(&status.map(u32::to_be_bytes).concat());
+            let statuses: Vec<String> = statuses.iter().map(status).collect();
             format!(
                 "after {calls} calls, report {}, status {}",
                 hex(report),
-                hex(&status)
+                statuses.join(" and ")
             )
         }),
         Some(Part::Window) => {
             let names = ["rate", "moment", "offset", "mark"];
-            for (name, parts) in names.iter().zip(expected.window.iter().zip(&found.window)) {
-                first(parts.0, parts.1, name, |word| format!("{word:08X}"));
+            for (axis, windows) in expected.windows.iter().zip(&found.windows).enumerate() {
+                for (name, parts) in names.iter().zip(windows.0.iter().zip(windows.1)) {
+                    let what = format!("{name} of axis {}", axis + 1);
+                    first(parts.0, parts.1, &what, |word| format!("{word:08X}"));
+                }
             }
         }
         Some(Part::Written) => {

@@ -6,8 +6,6 @@ use crate::compare::{Input, compared};
 use crate::live::Part;
 use crate::subject::Subject;
 
-const CALL: usize = 12;
-
 /// How long an input is made smaller.
 const LONGEST: Duration = Duration::from_secs(60);
 
@@ -75,7 +73,7 @@ impl Shrinker {
 
     /// An output of just the length that the calls need.
     fn fit_output(&mut self) {
-        let output_len = 36 + 4 * (self.input.calls.len() / CALL);
+        let output_len = self.input.axes.written_len(self.input.count());
         self.try_change(Input {
             output_len,
             ..self.input.clone()
@@ -84,13 +82,17 @@ impl Shrinker {
 
     /// Cuts runs of calls out, long ones first.
     fn cut_calls(&mut self) {
-        let mut length = self.input.calls.len() / CALL;
+        let axes = self.input.axes;
+        let (call_len, answer_len) = (axes.call_len(), 4 * axes.count());
+        let mut length = self.input.count();
         while length > 0 {
             let mut first = 0;
-            while (first + length) * CALL <= self.input.calls.len() {
+            while (first + length) * call_len <= self.input.calls.len() {
                 let mut changed = self.input.clone();
-                changed.calls.drain(first * CALL..(first + length) * CALL);
-                changed.output_len = changed.output_len.saturating_sub(4 * length);
+                changed
+                    .calls
+                    .drain(first * call_len..(first + length) * call_len);
+                changed.output_len = changed.output_len.saturating_sub(answer_len * length);
                 if !self.try_change(changed) {
                     first += length;
                 }

@@ -1,14 +1,37 @@
 //! What is held against the reference.
 
-use library::{ByteRun, Live, PlainUnits};
+use library::{ByteRun, Live, LivePair, PlainUnits};
 
-/// A program with 01's byte run, 02's plain units, and the live functions.
+use crate::axes::{Axes, Craft};
+
+/// A program with 01's byte run, 02's plain units and byte run of two axes, and the live functions of
+/// one axis and of two.
 #[derive(Clone, Copy)]
 pub struct Subject {
     pub name: &'static str,
     pub byte_run: ByteRun,
     pub plain_units: PlainUnits,
     pub live: Live,
+    pub two_axis_run: ByteRun,
+    pub live_pair: LivePair,
+}
+
+impl Subject {
+    /// Its byte run.
+    pub fn run(&self, axes: Axes) -> ByteRun {
+        match axes {
+            Axes::One => self.byte_run,
+            Axes::Two => self.two_axis_run,
+        }
+    }
+
+    /// Its live functions.
+    pub fn craft(&self, axes: Axes) -> Craft {
+        match axes {
+            Axes::One => Craft::One(self.live),
+            Axes::Two => Craft::Two(self.live_pair),
+        }
+    }
 }
 
 pub const SECOND: Subject = Subject {
@@ -16,6 +39,8 @@ pub const SECOND: Subject = Subject {
     byte_run: second::byte_run,
     plain_units: second::plain_units,
     live: second::LIVE,
+    two_axis_run: second::two_axis_run,
+    live_pair: second::LIVE_PAIR,
 };
 
 /// The library, where one was linked.
@@ -25,6 +50,8 @@ pub fn library() -> Option<Subject> {
         byte_run: library::BYTE_RUN?,
         plain_units: library::PLAIN_UNITS?,
         live: library::LIVE?,
+        two_axis_run: library::TWO_AXIS_RUN?,
+        live_pair: library::LIVE_PAIR?,
     })
 }
 

@@ -1,9 +1,11 @@
 mod live;
+mod two_axis;
 
 use reference::access::{self, Samples, before_four};
 use reference::byte_run::{byte_run, probe_run};
 use reference::checked::Answer;
 
+use crate::axes::Axes;
 use crate::changed;
 use crate::compare::{Input, Returned, compared, reference_run};
 use crate::exhaustive;
@@ -17,7 +19,7 @@ fn differs(subject: Subject, input: &Input) -> bool {
 
 /// The inputs of lists 0 to `count` of a seed.
 fn inputs(seed: u64, count: u64) -> impl Iterator<Item = (&'static str, Input)> {
-    (0..count).map(move |number| Input::numbered(None, seed, number))
+    (0..count).map(move |number| Input::numbered(Axes::One, None, seed, number))
 }
 
 #[test]
@@ -157,7 +159,7 @@ fn a_wrong_half_tick_is_found() {
 fn of_family(name: &str, seed: u64, count: u64) -> impl Iterator<Item = Input> + use<> {
     let family = lists::FAMILIES.iter().find(|family| family.name == name);
     let family = family.expect("the family");
-    (0..count).map(move |number| Input::numbered(Some(family), seed, number).1)
+    (0..count).map(move |number| Input::numbered(Axes::One, Some(family), seed, number).1)
 }
 
 #[test]
@@ -315,13 +317,14 @@ fn a_refused_run_is_compared_too() {
         ..SECOND
     };
     let input = Input {
+        axes: Axes::One,
         config: vec![0; 24],
         calls: vec![],
         output_len: 36,
         memory: 0,
     };
     let both = compared(subject, &input);
-    assert_eq!(both.answer.result, 1);
+    assert_eq!(both.axes[0].result, 1);
     assert_eq!(both.found.run.result, 0);
 }
 

@@ -2,8 +2,10 @@
 //! build.
 
 mod live;
+mod pair;
 
 pub use live::{LIVE, Live, LiveProbe, LiveStatus, WINDOW};
+pub use pair::{LIVE_PAIR, LivePair, PAIR_REPORT_LEN, TWO_AXIS_RUN};
 
 /// A byte run: configuration, calls, output; it answers 0 or a rule's number.
 pub type ByteRun = fn(&[u8], &[u8], &mut [u8]) -> u32;

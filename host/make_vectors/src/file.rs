@@ -5,6 +5,8 @@ use std::fs;
 use std::io;
 use std::path::Path;
 
+use lists::List;
+
 /// The bytes of a vector file.
 #[derive(Default)]
 pub struct File {
@@ -57,6 +59,17 @@ impl File {
     pub fn bytes(&mut self, bytes: &[u8]) -> &mut File {
         self.bytes.extend_from_slice(bytes);
         self
+    }
+
+    /// A byte run: three lengths, configuration, calls, result, output.
+    pub fn run(&mut self, list: &List, result: u32, output: &[u8]) -> &mut File {
+        for length in [list.config.len(), list.calls.len(), output.len()] {
+            self.word(length as u32);
+        }
+        self.bytes(&list.config)
+            .bytes(&list.calls)
+            .word(result)
+            .bytes(output)
     }
 
     /// Writes NAME.bin and NAME.txt to `folder`.

@@ -12,7 +12,7 @@ pub struct Kind {
     pub make: fn(u64) -> File,
 }
 
-/// All files but runs.bin.
+/// All files but those of whole byte runs.
 pub const KINDS: [Kind; 22] = [
     Kind {
         name: "narrow",
@@ -173,6 +173,6 @@ pub const KINDS: [Kind; 22] = [
     },
 ];
 
-/// The layout of runs.bin.
+/// The layout of the files of whole byte runs.
 pub const RUNS_LAYOUT: &str = "w length of the configuration, of the calls and of the output; configuration; \
     calls; w result; output after the run (before it byte k is 31·k + 165 mod 256)";

@@ -8,6 +8,7 @@ mod scalars;
 mod sweep;
 #[cfg(test)]
 mod tests;
+mod two_axis_runs;
 mod units;
 mod window;
 
@@ -16,7 +17,17 @@ use std::io;
 use std::path::{Path, PathBuf};
 use std::process::ExitCode;
 
+use file::File;
 use kinds::{KINDS, RUNS_LAYOUT};
+
+/// What makes a file of whole byte runs from a seed, and an index beside it.
+type MakeRuns = fn(u64) -> (File, String);
+
+/// The files of whole byte runs.
+const RUNS: [(&str, MakeRuns); 2] = [
+    ("runs", runs::runs),
+    ("two_axis_runs", two_axis_runs::two_axis_runs),
+];
 
 const USAGE: &str = "usage: make_vectors all|NAME FOLDER [--seed S]";
 
@@ -46,7 +57,8 @@ fn arguments() -> Result<(String, PathBuf, u64), String> {
         _ => return Err(USAGE.to_string()),
     };
     let mut names: Vec<&str> = KINDS.iter().map(|kind| kind.name).collect();
-    names.extend(["runs", "all"]);
+    names.extend(RUNS.map(|(name, _)| name));
+    names.push("all");
     if !names.contains(&name.as_str()) {
         return Err(format!("{USAGE}\nNAME is one of: {}", names.join(", ")));
     }
@@ -65,11 +77,13 @@ fn write(name: &str, folder: &Path, seed: u64) -> io::Result<()> {
             (kind.make)(seed).write(folder, kind.name, &how)?;
         }
     }
-    if name == "runs" || name == "all" {
-        let (file, index) = runs::runs(seed);
-        let how = format!("Record: {RUNS_LAYOUT}.\n{}", made_by("runs", seed));
-        file.write(folder, "runs", &how)?;
-        fs::write(folder.join("runs-index.txt"), index)?;
+    for (runs, make) in RUNS {
+        if name == runs || name == "all" {
+            let (file, index) = make(seed);
+            let how = format!("Record: {RUNS_LAYOUT}.\n{}", made_by(runs, seed));
+            file.write(folder, runs, &how)?;
+            fs::write(folder.join(format!("{runs}-index.txt")), index)?;
+        }
     }
     Ok(())
 }

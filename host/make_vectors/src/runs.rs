@@ -43,20 +43,13 @@ pub fn runs(seed: u64) -> (File, String) {
             answer.ending.name()
         )
         .expect("text");
-        let lengths = [list.config.len(), list.calls.len(), list.output_len];
-        file.record_of(list.family);
-        for length in lengths {
-            file.word(length as u32);
-        }
-        file.bytes(&list.config)
-            .bytes(&list.calls)
-            .word(answer.result)
-            .bytes(&output);
+        file.record_of(list.family)
+            .run(&list, answer.result, &output);
     }
     (file, index)
 }
 
 /// What byte `place` of an output holds before a run.
-fn untouched(place: usize) -> u8 {
+pub fn untouched(place: usize) -> u8 {
     (place * 31 + 0xa5) as u8
 }

@@ -3,7 +3,7 @@
 
 use reference::access::DelaySums;
 
-use crate::{file::File, fits, runs, scalars, sweep, units, window};
+use crate::{file::File, fits, runs, scalars, sweep, two_axis_runs, units, window};
 
 /// Reads words off a file.
 struct Reader<'a> {
@@ -321,7 +321,12 @@ fn the_second_program_replays_the_runs() {
         .filter(|line| line.contains("integrated"))
         .count();
     assert!(integrated >= 40, "{integrated} through the integrated fit");
-    let mut reader = Reader::of(&file);
+    replay(&file, second::byte_run);
+}
+
+/// A program gives the answers of a file of whole byte runs.
+fn replay(file: &File, byte_run: fn(&[u8], &[u8], &mut [u8]) -> u32) {
+    let mut reader = Reader::of(file);
     while !reader.at_end() {
         let lengths = [reader.word(), reader.word(), reader.word()].map(|length| length as usize);
         let (config, calls) = (reader.bytes(lengths[0]), reader.bytes(lengths[1]));
@@ -329,9 +334,28 @@ fn the_second_program_replays_the_runs() {
         let mut ours: Vec<u8> = (0..lengths[2])
             .map(|place| (place * 31 + 0xa5) as u8)
             .collect();
-        assert_eq!(second::byte_run(config, calls, &mut ours), result);
+        assert_eq!(byte_run(config, calls, &mut ours), result);
         assert_eq!(ours, output);
     }
+}
+
+#[test]
+fn the_second_program_replays_the_runs_of_two_axes() {
+    let (file, index) = two_axis_runs::two_axis_runs(1);
+    assert_eq!(index.lines().count(), file.records() + 1);
+    assert!(
+        (60..=100).contains(&file.records()),
+        "{} runs",
+        file.records()
+    );
+    assert!(file.contents().len() < 400_000);
+    for way in ["none", "first", "second", "both"] {
+        for way in [format!("\t{way}\t"), format!("\t{way}, already reached\t")] {
+            let kept = index.lines().filter(|line| line.contains(&way)).count();
+            assert!(kept >= 3 || way.starts_with("\tnone,"), "{kept} of {way}");
+        }
+    }
+    replay(&file, second::two_axis_run);
 }
 
 #[test]

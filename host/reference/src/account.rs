@@ -19,8 +19,19 @@ pub struct Account {
     pub turned_back: Vec<u32>,
     /// The answer of the last classification.
     pub class: Option<Class>,
-    /// The account took the extension and went on.
-    pub extended: bool,
+    /// How the extension was taken.
+    pub taken: Option<Taken>,
+}
+
+/// How an account takes the extension.
+#[derive(Clone, Copy, Debug, PartialEq)]
+pub struct Taken {
+    /// Its own entries were integrated.
+    pub wanted: bool,
+    /// Those of another axis were.
+    pub asked: bool,
+    /// It was not reached already.
+    pub went_on: bool,
 }
 
 /// A stored sample.
@@ -32,9 +43,8 @@ pub struct Entry {
 }
 
 impl Account {
-    /// The account of `calls` to a fresh probe of a configuration that passes 1 to 5.
-    pub fn of(config: &IdentifyConfig, calls: impl Iterator<Item = Call>) -> Account {
-        let mut account = Account {
+    fn fresh(config: &IdentifyConfig) -> Account {
+        Account {
             elapsed_s: 0.0,
             end_s: config.duration_s,
             extension_unused: config.noisy.is_some(),
@@ -44,16 +54,50 @@ impl Account {
             duration_s: 0.0,
             turned_back: Vec::new(),
             class: None,
-            extended: false,
-        };
+            taken: None,
+        }
+    }
+
+    /// The account of `calls` to a fresh probe of a configuration that passes 1 to 5.
+    pub fn of(config: &IdentifyConfig, calls: impl Iterator<Item = Call>) -> Account {
+        let mut account = Account::fresh(config);
         for call in calls {
-            let number = account.turns_back(call.dt);
-            account.turned_back.push(number);
-            if number == 0 && !account.ended {
-                account.accept(config, call);
+            if account.accepts(call.dt) {
+                account.enter(call);
+                let class = account.class_due();
+                account.close(config, class, false);
             }
         }
         account
+    }
+
+    /// The accounts of two axes in one flight. Each is that of a single probe, but that each asks
+    /// the other for the extension where its own entries are integrated.
+    pub fn of_two(config: &IdentifyConfig, calls: impl Iterator<Item = [Call; 2]>) -> [Account; 2] {
+        let mut accounts = [(); 2].map(|()| Account::fresh(config));
+        for calls in calls {
+            let [first, second] = &mut accounts;
+            let [of_first, of_second] = calls;
+            let accepted = [first.accepts(of_first.dt), second.accepts(of_second.dt)];
+            assert_eq!(accepted[0], accepted[1], "a call is accepted by both");
+            if accepted == [true; 2] {
+                first.enter(of_first);
+                second.enter(of_second);
+                let classes = [first.class_due(), second.class_due()];
+                let [first_asks, second_asks] =
+                    classes.map(|class| class == Some(Class::Integrated));
+                first.close(config, classes[0], second_asks);
+                second.close(config, classes[1], first_asks);
+            }
+        }
+        accounts
+    }
+
+    /// Whether the account goes on with a call; a number that turns it back is kept.
+    fn accepts(&mut self, dt: f32) -> bool {
+        let number = self.turns_back(dt);
+        self.turned_back.push(number);
+        number == 0 && !self.ended
     }
 
     /// The number that turns a call back on the account's numbers, or 0.
@@ -71,7 +115,8 @@ impl Account {
         }
     }
 
-    fn accept(&mut self, config: &IdentifyConfig, call: Call) {
+    /// A call that is accepted, up to its entry.
+    fn enter(&mut self, call: Call) {
         self.elapsed_s += call.dt;
         self.ticks += 1;
         if self.entries.len() < 2048 {
@@ -93,21 +138,41 @@ impl Account {
             });
             self.duration_s += call.dt;
         }
-        if self.elapsed_s < self.end_s {
+    }
+
+    /// The class of the entries at the end time; none before it.
+    fn class_due(&self) -> Option<Class> {
+        let below = self.elapsed_s < self.end_s;
+        (!below).then(|| access::classify(&self.samples()))
+    }
+
+    /// The end of a call, at which another axis asks for the extension or not.
+    fn close(&mut self, config: &IdentifyConfig, class: Option<Class>, asked: bool) {
+        let Some(class) = class else {
             return;
-        }
-        let class = access::classify(&self.samples());
+        };
         self.class = Some(class);
-        if class == Class::Integrated && self.extension_unused {
+        let wanted = class == Class::Integrated;
+        if (wanted || asked) && self.extension_unused {
             let extension = config.noisy.expect("an unused extension");
             self.end_s = extension.duration_s;
             self.extension_unused = false;
-            if self.elapsed_s < self.end_s {
-                self.extended = true;
+            let went_on = self.elapsed_s < self.end_s;
+            self.taken = Some(Taken {
+                wanted,
+                asked,
+                went_on,
+            });
+            if went_on {
                 return;
             }
         }
         self.ended = true;
+    }
+
+    /// Whether the extension was taken and the account went on.
+    pub fn extended(&self) -> bool {
+        self.taken.is_some_and(|taken| taken.went_on)
     }
 
     /// The entries as a window's contents.

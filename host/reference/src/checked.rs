@@ -1,10 +1,11 @@
 //! The reference's answer to a list, held against the account of the list.
 
 use crate::access::{self, Class, IdentifyStatus, Samples};
-use crate::account::Account;
+use crate::account::{Account, Taken};
 use crate::byte_run::{self, calls_of, config_of};
 use crate::plain_units::{PlainUnits, of_model};
 use crate::probe::{Probe, REPORT_LEN};
+use crate::two_axis;
 
 /// How a list ends.
 #[derive(Clone, Copy, Debug, PartialEq, Eq, PartialOrd, Ord, Hash)]
@@ -88,6 +89,51 @@ pub struct Answer {
     pub window: Option<Samples>,
 }
 
+impl Answer {
+    /// That of a run that is refused.
+    fn refused(result: u32) -> Answer {
+        Answer {
+            result,
+            ending: Ending::Refused(result),
+            half_ticks: None,
+            moment_weights: None,
+            units: None,
+            gain_fits: 0,
+            turned_back: [0; 3],
+            extended: false,
+            window: None,
+        }
+    }
+
+    /// That of a probe, held against its account.
+    fn of(probe: &Probe, account: &Account) -> Answer {
+        let ending = ending(probe, account);
+        check(probe, account);
+        check_finite(probe, ending);
+        let model = match probe.status() {
+            IdentifyStatus::Done(model) => Some(model),
+            _ => None,
+        };
+        let turned_back = |number| {
+            account
+                .turned_back
+                .iter()
+                .filter(move |back| **back == number)
+        };
+        Answer {
+            result: 0,
+            ending,
+            half_ticks: probe.half_ticks(),
+            moment_weights: model.map(|model| model.moment_weights),
+            units: model.and_then(|model| of_model(&model)),
+            gain_fits: probe.gain_fits(),
+            turned_back: [6, 7, 8].map(|number| turned_back(number).count() as u32),
+            extended: account.extended(),
+            window: Some(access::samples(probe.inner())),
+        }
+    }
+}
+
 /// Runs the reference over a list, and panics where the account says otherwise or an integrated
 /// model holds a number that is not finite.
 pub fn checked_run(config: &[u8], calls: &[u8], output: &mut [u8]) -> Answer {
@@ -95,55 +141,99 @@ pub fn checked_run(config: &[u8], calls: &[u8], output: &mut [u8]) -> Answer {
     match byte_run::probe_run(config, calls, output) {
         Err(result) => {
             assert!(output == before, "a refused run writes no byte");
-            Answer {
-                result,
-                ending: Ending::Refused(result),
-                half_ticks: None,
-                moment_weights: None,
-                units: None,
-                gain_fits: 0,
-                turned_back: [0; 3],
-                extended: false,
-                window: None,
-            }
+            Answer::refused(result)
         }
         Ok(probe) => {
             let account = Account::of(&config_of(config), calls_of(calls));
-            let ending = ending(&probe, &account);
-            check(&probe, &account, output);
-            check_finite(&probe, ending);
-            let written = REPORT_LEN + 4 * account.turned_back.len();
-            assert!(
-                output[written..] == before[written..],
-                "later bytes are untouched"
-            );
-            let model = match probe.status() {
-                IdentifyStatus::Done(model) => Some(model),
-                _ => None,
-            };
-            Answer {
+            let written = byte_run::written_len(account.turned_back.len());
+            check_words(&output[REPORT_LEN..written], (0, 1), &account);
+            check_rest(output, &before, written);
+            Answer::of(&probe, &account)
+        }
+    }
+}
+
+/// The reference's answer to a list of calls of two axes.
+pub struct TwoAxisAnswer {
+    pub result: u32,
+    /// That of each axis.
+    pub axes: [Answer; 2],
+    /// How the first axis took the extension; the second took it in the same call.
+    pub taken: Option<Taken>,
+}
+
+/// By which axis's window the extension was taken, from how the first took it.
+pub fn taken_by(first: Option<Taken>) -> &'static str {
+    let Some(taken) = first else {
+        return "none";
+    };
+    match (taken.wanted, taken.asked, taken.went_on) {
+        (true, false, true) => "first",
+        (true, true, true) => "both",
+        (false, _, true) => "second",
+        (true, false, false) => "first, already reached",
+        (true, true, false) => "both, already reached",
+        (false, _, false) => "second, already reached",
+    }
+}
+
+/// Runs the reference over a list of calls of two axes, and panics where the account of an axis says
+/// otherwise.
+pub fn checked_two_axis_run(config: &[u8], calls: &[u8], output: &mut [u8]) -> TwoAxisAnswer {
+    let before = output.to_vec();
+    match two_axis::flight_run(config, calls, output) {
+        Err(result) => {
+            assert!(output == before, "a refused run writes no byte");
+            TwoAxisAnswer {
+                result,
+                axes: [(); 2].map(|()| Answer::refused(result)),
+                taken: None,
+            }
+        }
+        Ok(flight) => {
+            let accounts = Account::of_two(&config_of(config), two_axis::calls_of(calls));
+            let [first, second] = &accounts;
+            assert_eq!(first.ended, second.ended, "both axes have ended or neither");
+            assert_eq!(first.ticks, second.ticks, "ticks of both axes");
+            let written = two_axis::written_len(first.turned_back.len());
+            let words = &output[two_axis::REPORT_LEN..written];
+            check_words(words, (0, 2), first);
+            check_words(words, (1, 2), second);
+            check_rest(output, &before, written);
+            let [first_axis, second_axis] = flight.axes();
+            TwoAxisAnswer {
                 result: 0,
-                ending,
-                half_ticks: probe.half_ticks(),
-                moment_weights: model.map(|model| model.moment_weights),
-                units: model.and_then(|model| of_model(&model)),
-                gain_fits: probe.gain_fits(),
-                turned_back: [6, 7, 8].map(|number| {
-                    account
-                        .turned_back
-                        .iter()
-                        .filter(|back| **back == number)
-                        .count() as u32
-                }),
-                extended: account.extended,
-                window: Some(access::samples(probe.inner())),
+                axes: [
+                    Answer::of(first_axis, first),
+                    Answer::of(second_axis, second),
+                ],
+                taken: first.taken,
             }
         }
     }
 }
 
+/// Holds an output to what it was before, past what is written.
+fn check_rest(output: &[u8], before: &[u8], written: usize) {
+    assert!(
+        output[written..] == before[written..],
+        "later bytes are untouched"
+    );
+}
+
+/// Holds the words of the calls, of which a call has `each`, against the numbers of the account.
+fn check_words(words: &[u8], (place, each): (usize, usize), account: &Account) {
+    let calls = words.chunks_exact(4 * each);
+    assert_eq!(calls.len(), account.turned_back.len(), "calls");
+    for (call, back) in calls.zip(&account.turned_back) {
+        let number = byte_run::word_at(call, place).wrapping_sub(float::NAN_BITS);
+        let answered = if (6..=8).contains(&number) { number } else { 0 };
+        assert_eq!(answered, *back, "a call turned back");
+    }
+}
+
 /// Holds the probe and its report against the account.
-fn check(probe: &Probe, account: &Account, output: &[u8]) {
+fn check(probe: &Probe, account: &Account) {
     let report = probe.report();
     let running = matches!(probe.status(), IdentifyStatus::Running { .. });
     assert_eq!(
@@ -187,15 +277,6 @@ fn check(probe: &Probe, account: &Account, output: &[u8]) {
             "moment {place}"
         );
         assert_eq!(samples.held[place], entry.held, "mark {place}");
-    }
-    for (word, back) in output[REPORT_LEN..]
-        .chunks_exact(4)
-        .zip(&account.turned_back)
-    {
-        let bits = u32::from_be_bytes(word.try_into().expect("four bytes"));
-        let number = bits.wrapping_sub(float::NAN_BITS);
-        let answered = if (6..=8).contains(&number) { number } else { 0 };
-        assert_eq!(answered, *back, "a call turned back");
     }
 }
 

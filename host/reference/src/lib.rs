@@ -5,13 +5,15 @@
 //! build.rs lists every change to the Rust. [`access`] reaches its private parts, [`probe`]
 //! puts 01's refusals and report around it, [`byte_run`] is 01's byte run, [`account`] counts
 //! apart from it what a list of calls must leave behind, and [`checked`] holds the two
-//! together. [`plain_units`] gives 02's lag and acceleration of a report.
+//! together. [`plain_units`] gives 02's lag and acceleration of a report, and [`two_axis`] flies two
+//! probes as one.
 
 pub mod account;
 pub mod byte_run;
 pub mod checked;
 pub mod plain_units;
 pub mod probe;
+pub mod two_axis;
 
 pub use tuning::identify::access;
 

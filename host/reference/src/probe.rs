@@ -50,10 +50,22 @@ pub struct Probe {
 impl Probe {
     /// A probe ready to run, or the number that turns its configuration back.
     pub fn new(config: IdentifyConfig) -> Result<Probe, u32> {
+        Probe::around(config, IdentifyProbe::new)
+    }
+
+    /// The same with a square wave that starts low.
+    pub fn starting_low(config: IdentifyConfig) -> Result<Probe, u32> {
+        Probe::around(config, access::starting_low)
+    }
+
+    fn around(
+        config: IdentifyConfig,
+        inner: fn(IdentifyConfig) -> IdentifyProbe,
+    ) -> Result<Probe, u32> {
         match refused_config(&config) {
             Some(number) => Err(number),
             None => Ok(Probe {
-                inner: IdentifyProbe::new(config),
+                inner: inner(config),
                 ticks: 0,
                 gain_fits: 0,
                 step: None,
@@ -62,13 +74,13 @@ impl Probe {
         }
     }
 
-    /// The offset of one call, or the number, 6 to 8, that turns it back.
-    pub fn step(&mut self, dt: f32, rate: f32, moment: f32) -> Result<f32, u32> {
+    /// Whether a call runs the probe, or the number, 6 to 8, that turns it back.
+    fn runs(&self, dt: f32) -> Result<bool, u32> {
         if !(dt > 0.0 && dt.is_finite()) {
             return Err(6);
         }
         let IdentifyStatus::Running { elapsed_s } = self.inner.status() else {
-            return Ok(self.inner.step(dt, rate, moment));
+            return Ok(false);
         };
         if elapsed_s + dt > LATEST_S {
             return Err(7);
@@ -76,7 +88,36 @@ impl Probe {
         if self.ticks == MOST_TICKS {
             return Err(8);
         }
-        let (offset, notes) = access::noted(|| self.inner.step(dt, rate, moment));
+        Ok(true)
+    }
+
+    /// The offset of one call, or the number, 6 to 8, that turns it back.
+    pub fn step(&mut self, dt: f32, rate: f32, moment: f32) -> Result<f32, u32> {
+        self.step_by(IdentifyProbe::step, dt, rate, moment)
+    }
+
+    /// The call at the end time, at which another axis asks for the extension.
+    pub fn step_asked(&mut self, dt: f32, rate: f32, moment: f32) -> Result<f32, u32> {
+        self.step_by(access::step_extended, dt, rate, moment)
+    }
+
+    /// Whether a call would take the extension by the probe's own window.
+    pub fn wants_extension(&self, dt: f32, rate: f32, moment: f32) -> bool {
+        self.runs(dt) == Ok(true) && access::wants_extension(&self.inner, dt, rate, moment)
+    }
+
+    /// A call by a step of the Rust's probe: dt, rate, moment.
+    fn step_by(
+        &mut self,
+        step: impl Fn(&mut IdentifyProbe, f32, f32, f32) -> f32,
+        dt: f32,
+        rate: f32,
+        moment: f32,
+    ) -> Result<f32, u32> {
+        if !self.runs(dt)? {
+            return Ok(self.inner.step(dt, rate, moment));
+        }
+        let (offset, notes) = access::noted(|| step(&mut self.inner, dt, rate, moment));
         self.ticks += 1;
         self.gain_fits += notes.gain_fits;
         self.step = notes.step.or(self.step);

@@ -4,10 +4,12 @@
 
 mod fits;
 mod probe;
+mod two_axis;
 mod units;
 
 use probe::Probe;
 pub use probe::live::LIVE;
+pub use two_axis::{LIVE_PAIR, two_axis_run};
 pub use units::plain_units;
 
 /// Document 01's byte run.

@@ -18,6 +18,9 @@ enum Status {
     Saturated,
 }
 
+/// Where the loop over edges stops; no call up to 4,096 s comes to it.
+const LAST_EDGE: u32 = 32_769;
+
 pub struct Probe {
     amplitude: f32,
     end: f32,
@@ -26,8 +29,9 @@ pub struct Probe {
     status: Status,
     elapsed: f32,
     ticks: u32,
-    // The sweep: edge 0 and high at first.
+    // The sweep: edge 0 at first, and high but for the second axis of two.
     edge: u32,
+    high: bool,
     next_edge: f32,
     washout: f32,
     window: Vec<Sample>,
@@ -95,6 +99,7 @@ impl Probe {
             elapsed: 0.0,
             ticks: 0,
             edge: 0,
+            high: true,
             next_edge: half(0),
             washout: 0.0,
             window: Vec::new(),
@@ -103,9 +108,17 @@ impl Probe {
         })
     }
 
+    /// A fresh probe whose sweep starts low.
+    pub fn starting_low(self) -> Probe {
+        Probe {
+            high: false,
+            ..self
+        }
+    }
+
     /// The elapsed time after a call of this dt, none after the end; or the number that turns it
     /// back.
-    fn elapsed_after(&self, dt: f32) -> Result<Option<f32>, u32> {
+    pub fn elapsed_after(&self, dt: f32) -> Result<Option<f32>, u32> {
         if !(dt > 0.0 && finite(dt)) {
             return Err(6);
         }
@@ -126,23 +139,28 @@ impl Probe {
         let Some(elapsed) = self.elapsed_after(dt)? else {
             return Ok(0.0);
         };
+        let offset = self.tick(elapsed, dt, rate, moment);
+        let class = self.class();
+        self.close(class, false);
+        Ok(offset)
+    }
+
+    /// A call up to its sample: the offset.
+    pub fn tick(&mut self, elapsed: f32, dt: f32, rate: f32, moment: f32) -> f32 {
         self.elapsed = elapsed;
         self.ticks += 1;
         let offset = self.sweep(dt);
         self.store(dt, rate, moment);
-        if elapsed >= self.end {
-            self.end_reached();
-        }
-        Ok(offset)
+        offset
     }
 
     fn sweep(&mut self, dt: f32) -> f32 {
-        while self.elapsed >= self.next_edge {
+        while self.elapsed >= self.next_edge && self.edge < LAST_EDGE {
             self.edge += 1;
+            self.high = !self.high;
             self.next_edge += half(self.edge);
         }
-        let high = self.edge.is_multiple_of(2);
-        let square = if high { self.amplitude } else { 0.0 };
+        let square = if self.high { self.amplitude } else { 0.0 };
         let ratio = dt / self.washout_tc;
         let share = if ratio < 1.0 { ratio } else { 1.0 };
         self.washout += (square - self.washout) * share;
@@ -165,12 +183,25 @@ impl Probe {
         self.window_duration += dt;
     }
 
-    fn end_reached(&mut self) {
-        let class = classify(&self.window, self.window_duration);
-        if let (Class::Integrated, Some(extension)) = (&class, self.extension.take()) {
+    /// Whether a call that brings the elapsed time here goes on.
+    pub fn goes_on(&self, elapsed: f32) -> bool {
+        elapsed < self.end
+    }
+
+    /// The class of the window; none before the end time.
+    pub fn class(&self) -> Option<Class> {
+        let due = !self.goes_on(self.elapsed);
+        due.then(|| classify(&self.window, self.window_duration))
+    }
+
+    /// The end of a call: the extension is taken by an integrated window, and where another axis asks.
+    pub fn close(&mut self, class: Option<Class>, asked: bool) {
+        let Some(class) = class else { return };
+        let takes = asked || matches!(class, Class::Integrated);
+        if let Some(extension) = self.extension.take_if(|_| takes) {
             self.end = extension.duration;
             self.amplitude = extension.amplitude;
-            if self.elapsed < self.end {
+            if self.goes_on(self.elapsed) {
                 return;
             }
         }
@@ -196,14 +227,23 @@ impl Probe {
         }
     }
 
+    /// The ticks, and the rows of an ended probe.
+    pub fn ticks_and_rows(&self) -> (u32, u32) {
+        let rows = match self.status {
+            Status::Running => 0,
+            _ => rows(&self.window).len() as u32,
+        };
+        (self.ticks, rows)
+    }
+
     pub fn report(&self) -> [u8; 36] {
         let stored = self.window.len() as u32;
         let held = self.window.iter().filter(|sample| sample.held).count() as u32;
-        let ended_rows = rows(&self.window).len() as u32;
+        let (ticks, rows) = self.ticks_and_rows();
         let (kind, half_ticks, floats) = self.model();
-        let (warm, rows) = match kind {
-            0 => (0, 0),
-            _ => (stored - held - ended_rows, ended_rows),
+        let warm = match kind {
+            0 => 0,
+            _ => stored - held - rows,
         };
         let mut digits = String::new();
         let fields = [
@@ -211,7 +251,7 @@ impl Probe {
             (half_ticks / 2, 4),
             (half_ticks % 2, 1),
             (0, 1),
-            (self.ticks, 25),
+            (ticks, 25),
             (stored, 12),
             (held, 12),
             (warm, 12),

@@ -4,6 +4,7 @@ use library::{Live, LiveProbe};
 use second::LIVE;
 
 use super::found_by;
+use crate::axes::{Axes, Craft};
 use crate::compare::compared;
 use crate::live::Part;
 use crate::memory::{self, memory};
@@ -222,10 +223,11 @@ fn a_wrong_window_is_found() {
 
 /// Whether memory of any bytes shows a fault, also after it is made small.
 fn found_by_memory(live: Live) -> bool {
+    let craft = Craft::One(live);
     let wrong = (0..2_000)
-        .map(|number| memory(31, number))
-        .find(|memory| memory::checked(live, memory).is_err());
-    wrong.is_some_and(|wrong| memory::checked(live, &memory::shrunk(live, wrong)).is_err())
+        .map(|number| memory(Axes::One, 31, number))
+        .find(|memory| memory::checked(craft, memory).is_err());
+    wrong.is_some_and(|wrong| memory::checked(craft, &memory::smallest(craft, wrong)).is_err())
 }
 
 /// The probe with its marks other than 1 made 0.

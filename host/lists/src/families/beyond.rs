@@ -215,7 +215,7 @@ fn cutting_size(random: &mut Random, faint: &Faint) -> Option<f64> {
         (poles[kept + 1], poles[kept.checked_sub(1)?])
     } else {
         let kept = place + away;
-        (poles[kept - 1], *poles.get(kept + 1)?)
+        (*poles.get(kept - 1)?, *poles.get(kept + 1)?)
     };
     // Round r tries a pole at 0.382·0.618^(r - 1) of the bracket from that end.
     let round = random.between(1, 11);

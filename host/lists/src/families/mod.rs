@@ -3,7 +3,7 @@
 mod beyond;
 mod calls;
 mod flights;
-mod made;
+pub mod made;
 mod windows;
 
 use crate::List;

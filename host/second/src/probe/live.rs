@@ -35,7 +35,7 @@ fn ready(parts: &mut LiveProbe, dt: f32) {
 /// `ready` of the probe that was read.
 fn ready_for(probe: &Probe, parts: &mut LiveProbe, dt: f32) {
     if let Ok(Some(elapsed)) = probe.elapsed_after(dt)
-        && elapsed >= probe.end
+        && !probe.goes_on(elapsed)
     {
         parts.make_marks_plain();
     }
@@ -44,22 +44,30 @@ fn ready_for(probe: &Probe, parts: &mut LiveProbe, dt: f32) {
 fn step(parts: &mut LiveProbe, [dt, rate, moment]: [f32; 3], offset: &mut f32) -> u32 {
     let mut probe = read(parts);
     ready_for(&probe, parts, dt);
-    let before = probe.window.len();
+    let ran = matches!(probe.status, Status::Running);
     match probe.step(dt, rate, moment) {
         Ok(answer) => *offset = answer,
         Err(number) => return number,
     }
-    if let Some(sample) = probe.window.get(before) {
-        parts.rates[before] = sample.rate;
-        parts.moments[before] = sample.moment;
-        parts.offsets[before] = *offset;
-        parts.held[before] = u8::from(sample.held);
+    if ran {
+        keep(&probe, *offset, parts);
     }
-    write(&probe, parts);
     0
 }
 
-fn status(parts: &LiveProbe) -> LiveStatus {
+/// Writes the scalars of a probe after a call, and the sample that the parts do not have yet.
+pub fn keep(probe: &Probe, offset: f32, parts: &mut LiveProbe) {
+    let before = stored(parts);
+    if let Some(sample) = probe.window.get(before) {
+        parts.rates[before] = sample.rate;
+        parts.moments[before] = sample.moment;
+        parts.offsets[before] = offset;
+        parts.held[before] = u8::from(sample.held);
+    }
+    write(probe, parts);
+}
+
+pub fn status(parts: &LiveProbe) -> LiveStatus {
     let probe = read(parts);
     let (kind, half_ticks, floats) = probe.model();
     let mut units = [0; 12];
@@ -83,18 +91,13 @@ fn report(parts: &LiveProbe, output: &mut [u8]) {
     }
 }
 
+fn stored(parts: &LiveProbe) -> usize {
+    WINDOW.min(parts.words[3] as usize)
+}
+
 /// The probe in its parts. What no probe has is taken for the nearest that one has.
-fn read(parts: &LiveProbe) -> Probe {
-    let [
-        kind,
-        half_ticks,
-        ticks,
-        stored,
-        gain_fits,
-        extension,
-        edge,
-        _,
-    ] = parts.words;
+pub fn read(parts: &LiveProbe) -> Probe {
+    let [kind, half_ticks, ticks, _, gain_fits, extension, edge, high] = parts.words;
     let [
         end,
         amplitude_then,
@@ -106,7 +109,6 @@ fn read(parts: &LiveProbe) -> Probe {
         window_duration,
         floats @ ..,
     ] = parts.floats;
-    let stored = WINDOW.min(stored as usize);
     Probe {
         amplitude,
         end,
@@ -126,10 +128,11 @@ fn read(parts: &LiveProbe) -> Probe {
         },
         elapsed: floats[5],
         ticks: ticks.min(1 << 24),
-        edge: edge.min(10_235),
+        edge,
+        high: high != 0,
         next_edge: next_edge.max(0.0),
         washout,
-        window: (0..stored)
+        window: (0..stored(parts))
             .map(|place| Sample {
                 rate: parts.rates[place],
                 moment: parts.moments[place],
@@ -142,7 +145,7 @@ fn read(parts: &LiveProbe) -> Probe {
 }
 
 /// Writes the scalars of a probe.
-fn write(probe: &Probe, parts: &mut LiveProbe) {
+pub fn write(probe: &Probe, parts: &mut LiveProbe) {
     let extension = probe.extension.unwrap_or(Extension {
         amplitude: 0.0,
         duration: 0.0,
@@ -156,7 +159,7 @@ fn write(probe: &Probe, parts: &mut LiveProbe) {
         probe.gain_fits,
         u32::from(probe.extension.is_some()),
         probe.edge,
-        u32::from(probe.edge.is_multiple_of(2)),
+        u32::from(probe.high),
     ];
     parts.floats = [
         probe.end,

@@ -1,6 +1,8 @@
 //! Access to the private parts of identify.rs, as plain values, and the notes that build.rs
 //! lets it take: gain fits made, what the grid keeps, the integrated fit's step, the sums of a classification.
-//! [`before_four`] leaves out the two tests that build.rs puts in for request four of 02.
+//! [`before_four`] leaves out the two tests that build.rs puts in for request four of 02. For request
+//! five [`starting_low`] sets the first level, and [`step_extended`] moves the end time; the Rust's text
+//! stays.
 
 use std::cell::{Cell, RefCell};
 
@@ -144,6 +146,36 @@ fn samples_of(window: &Window) -> Samples {
     }
 }
 
+/// A probe ready to run whose square wave starts low.
+pub fn starting_low(config: IdentifyConfig) -> IdentifyProbe {
+    let mut probe = IdentifyProbe::new(config);
+    probe.sweep.high = false;
+    probe
+}
+
+/// Whether a call would find the window integrated at the end time, with the extension unused.
+pub fn wants_extension(probe: &IdentifyProbe, dt: f32, rate: f32, moment: f32) -> bool {
+    let IdentifyStatus::Running { elapsed_s } = probe.status else {
+        return false;
+    };
+    if probe.noisy.is_none() || elapsed_s + dt < probe.duration_s {
+        return false;
+    }
+    let mut window = probe.window.clone();
+    window.record(dt, rate, moment, 0.0);
+    class_of(&window) == Class::Integrated
+}
+
+/// The call at the end time, with the unused extension taken whatever the window's class: the probe
+/// is one of the extension's duration without an extension, and has its amplitude from then on.
+pub fn step_extended(probe: &mut IdentifyProbe, dt: f32, rate: f32, moment: f32) -> f32 {
+    let noisy = probe.noisy.take().expect("an unused extension");
+    probe.duration_s = noisy.duration_s;
+    let offset = probe.step(dt, rate, moment);
+    probe.sweep.amplitude = noisy.amplitude;
+    offset
+}
+
 /// The window of a probe.
 pub fn samples(probe: &IdentifyProbe) -> Samples {
     samples_of(&probe.window)
@@ -230,7 +262,11 @@ pub enum Class {
 
 /// The classification of a window.
 pub fn classify(samples: &Samples) -> Class {
-    match super::classify(&samples.window()) {
+    class_of(&samples.window())
+}
+
+fn class_of(window: &Window) -> Class {
+    match super::classify(window) {
         Ok(Fit::Recorded(model)) => Class::Recorded(model),
         Ok(Fit::Integrated) => Class::Integrated,
         Err(IdentifyAbort::Unexcited) => Class::Unexcited,

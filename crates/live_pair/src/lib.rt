@@ -1,0 +1,211 @@
+// A pair of probes that their caller keeps and steps, one for each axis: opened, stepped and reported from its own memory.
+ghost use mathlib.Core.Path.{_≡_};
+ghost use Prim.Native.Nat.{ℕ};
+ghost use Rattle.marks.specs.Marks.{KeepsMarks};
+ghost use Rattle.account.specs.Probe.{number};
+ghost use Rattle.probe_words.specs.Layout.{scalars, probeIn};
+ghost use Rattle.live_probe.specs.Live.{configBy, liveFound, liveLeft};
+ghost use Rattle.two_axis.specs.Axes.{Axis, first, second, axes, twoCall};
+ghost use Rattle.two_axis_probe.specs.Stepped.{replyTwo};
+ghost use Rattle.live_pair.specs.Pair.{bothFound, bothLeft, offsetsFound, offsetsLeft, pairOpening, pairOpen, scalarsAfterTwo, offsetAfterTwo, pairFlight, pairStep, accepted, pairReadied};
+ghost use Rattle.live_pair.specs.Flown.{OpensPair, PairFliesOn, WritesPairReport, ReportsPair};
+use account::IdentifyConfig;
+use identify::IdentifyProbe;
+use rules::Clock;
+use two_axis_probe::TwoAxisProbe;
+use two_axis_probe::TwoStepped;
+
+// ---- open
+
+// Opens a pair in its scalars; the arrays of samples may hold anything. It answers 0; 9 where an option has no meaning; or the number of the first of the rules 1 to 5 that is broken. On a number nothing is written.
+pub fn open(
+    words1: &mut [u32; 8],
+    floats1: &mut [f32; 14],
+    words2: &mut [u32; 8],
+    floats2: &mut [f32; 14],
+    amplitude: f32,
+    duration_s: f32,
+    washout_tc_s: f32,
+    extension: u32,
+    extension_amplitude: f32,
+    extension_duration_s: f32,
+    options: u32,
+) -> u32
+    ensures opening { λ r. ⌜ pairOpening r (bothLeft words1 floats1 words2 floats2) ≡ pairOpen options (configBy amplitude «duration_s» «washout_tc_s» extension «extension_amplitude» «extension_duration_s») (bothFound words1 floats1 words2 floats2) ⌝ }
+    ensures flown { λ r. ⌜ OpensPair (configBy amplitude «duration_s» «washout_tc_s» extension «extension_amplitude» «extension_duration_s») r (bothLeft words1 floats1 words2 floats2) ⌝ }
+{
+    if options != 0 {
+        return 9;
+    }
+    let noisy = probe_words::noisy_by(extension, extension_amplitude, extension_duration_s);
+    let config = IdentifyConfig {
+        amplitude,
+        duration_s,
+        washout_tc_s,
+        noisy,
+    };
+    let number = rules::validate(config);
+    if number != 0 {
+        return number;
+    }
+    let fresh = TwoAxisProbe::fresh(config);
+    let probe1 = fresh.first;
+    let probe2 = fresh.second;
+    probe_writing::write_probe(words1, floats1, probe1);
+    probe_writing::write_probe(words2, floats2, probe2);
+    0
+}
+
+// ---- step
+
+// What a call leaves in the scalars and at the offsets. It answers 0, or the number of the rule that turned the call back, and then nothing is written.
+fn keep(
+    stepped: TwoStepped,
+    words1: &mut [u32; 8],
+    floats1: &mut [f32; 14],
+    words2: &mut [u32; 8],
+    floats2: &mut [f32; 14],
+    offset1: &mut f32,
+    offset2: &mut f32,
+) -> u32
+    ensures result { λ r. ⌜ r ≡ number (replyTwo stepped first) ⌝ }
+    ensures offset1 { λ r. ⌜ now (offset1 .exit) ≡ offsetAfterTwo stepped first (now (offset1 .entry)) ⌝ }
+    ensures offset2 { λ r. ⌜ now (offset2 .exit) ≡ offsetAfterTwo stepped second (now (offset2 .entry)) ⌝ }
+    ensures scalars { λ r. ⌜ ((x : Axis) → bothLeft words1 floats1 words2 floats2 x ≡ scalarsAfterTwo stepped x (bothFound words1 floats1 words2 floats2 x)) ⌝ }
+{
+    match stepped {
+        TwoStepped::Offsets(x, y, next) => {
+            let probe1 = next.first;
+            let probe2 = next.second;
+            probe_writing::write_probe(words1, floats1, probe1);
+            probe_writing::write_probe(words2, floats2, probe2);
+            *offset1 = x;
+            *offset2 = y;
+            0
+        }
+        TwoStepped::Ended => {
+            *offset1 = 0.0;
+            *offset2 = 0.0;
+            0
+        }
+        TwoStepped::Refused(number) => number,
+    }
+}
+
+// One call of both axes.
+pub fn step(
+    words1: &mut [u32; 8],
+    floats1: &mut [f32; 14],
+    rates1: &mut [f32; 2048],
+    moments1: &mut [f32; 2048],
+    offsets1: &mut [f32; 2048],
+    held1: &mut [bool; 2048],
+    words2: &mut [u32; 8],
+    floats2: &mut [f32; 14],
+    rates2: &mut [f32; 2048],
+    moments2: &mut [f32; 2048],
+    offsets2: &mut [f32; 2048],
+    held2: &mut [bool; 2048],
+    dt: f32,
+    rate1: f32,
+    moment1: f32,
+    rate2: f32,
+    moment2: f32,
+    offset1: &mut f32,
+    offset2: &mut f32,
+) -> u32
+    ensures flight { λ r. ⌜ pairFlight r (offsetsLeft offset1 offset2) (axes (liveLeft words1 floats1 rates1 moments1 offsets1 held1) (liveLeft words2 floats2 rates2 moments2 offsets2 held2)) ≡ pairStep (axes (liveFound words1 floats1 rates1 moments1 offsets1 held1) (liveFound words2 floats2 rates2 moments2 offsets2 held2)) (twoCall dt rate1 moment1 rate2 moment2) (offsetsFound offset1 offset2) ⌝ }
+    ensures flown { λ r. ⌜ PairFliesOn (axes (liveFound words1 floats1 rates1 moments1 offsets1 held1) (liveFound words2 floats2 rates2 moments2 offsets2 held2)) (twoCall dt rate1 moment1 rate2 moment2) r (offsetsLeft offset1 offset2) (axes (liveLeft words1 floats1 rates1 moments1 offsets1 held1) (liveLeft words2 floats2 rates2 moments2 offsets2 held2)) ⌝ }
+{
+    let pair = TwoAxisProbe {
+        first: probe_words::probe_of(words1, floats1),
+        second: probe_words::probe_of(words2, floats2),
+    };
+    let stepped = pair.step(
+        rates1,
+        moments1,
+        offsets1,
+        held1,
+        rates2,
+        moments2,
+        offsets2,
+        held2,
+        dt,
+        rate1,
+        moment1,
+        rate2,
+        moment2,
+    );
+    keep(stepped, words1, floats1, words2, floats2, offset1, offset2)
+}
+
+// ---- marks
+
+// Whether an axis runs and no rule turns its call back.
+fn accepts(probe: IdentifyProbe, dt: f32) -> bool
+    ensures { λ r. ⌜ r ≡ accepted probe dt ⌝ }
+{
+    let status = probe.status;
+    let clock = rules::clock_of(status);
+    let number = rules::refuses(clock, probe.ticks, dt);
+    if number != 0 {
+        return false;
+    }
+    match clock {
+        Clock::At(_) => true,
+        Clock::Stopped => false,
+    }
+}
+
+// Before a call that reads an axis's marks each byte of them is made 0 or 1, and before any other, one that is turned back among them, nothing is written. The marks that they stand for stay.
+pub fn ready(
+    words1: &[u32; 8],
+    floats1: &[f32; 14],
+    marks1: &mut [u8; 2048],
+    words2: &[u32; 8],
+    floats2: &[f32; 14],
+    marks2: &mut [u8; 2048],
+    dt: f32,
+)
+    ensures bytes1 { λ _. ⌜ now (marks1 .exit) ≡ pairReadied (axes (probeIn (scalars (now (words1 .entry)) (now (floats1 .entry)))) (probeIn (scalars (now (words2 .entry)) (now (floats2 .entry))))) first dt (now (marks1 .entry)) ⌝ }
+    ensures bytes2 { λ _. ⌜ now (marks2 .exit) ≡ pairReadied (axes (probeIn (scalars (now (words1 .entry)) (now (floats1 .entry)))) (probeIn (scalars (now (words2 .entry)) (now (floats2 .entry))))) second dt (now (marks2 .entry)) ⌝ }
+    ensures marks1 { λ _. ⌜ KeepsMarks (now (marks1 .entry)) (now (marks1 .exit)) ⌝ }
+    ensures marks2 { λ _. ⌜ KeepsMarks (now (marks2 .entry)) (now (marks2 .exit)) ⌝ }
+{
+    let probe1 = probe_words::probe_of(words1, floats1);
+    let probe2 = probe_words::probe_of(words2, floats2);
+    if accepts(probe1, dt) {
+        if accepts(probe2, dt) {
+            live_probe::ready(words1, floats1, marks1, dt);
+            live_probe::ready(words2, floats2, marks2, dt);
+        }
+    }
+}
+
+// ---- report
+
+// The report of both axes, 77 bytes at the front of a slice; a slice of fewer stays as it is.
+pub fn report(
+    words1: &[u32; 8],
+    floats1: &[f32; 14],
+    rates1: &[f32; 2048],
+    marks1: &[u8; 2048],
+    words2: &[u32; 8],
+    floats2: &[f32; 14],
+    rates2: &[f32; 2048],
+    marks2: &[u8; 2048],
+    output: &mut [u8],
+)
+    ensures output { λ _. ⌜ WritesPairReport (axes (scalars (now (words1 .entry)) (now (floats1 .entry))) (scalars (now (words2 .entry)) (now (floats2 .entry)))) (axes (now (rates1 .entry)) (now (rates2 .entry))) (axes (now (marks1 .entry)) (now (marks2 .entry))) (now (output .entry)) (now (output .exit)) ⌝ }
+    ensures flown { λ _. ⌜ ReportsPair (axes (scalars (now (words1 .entry)) (now (floats1 .entry))) (scalars (now (words2 .entry)) (now (floats2 .entry)))) (axes (now (rates1 .entry)) (now (rates2 .entry))) (axes (now (marks1 .entry)) (now (marks2 .entry))) (now (output .entry)) (now (output .exit)) ⌝ }
+{
+    let probe1 = probe_words::probe_of(words1, floats1);
+    let probe2 = probe_words::probe_of(words2, floats2);
+    let held1 = marks::held_by(marks1);
+    let held2 = marks::held_by(marks2);
+    two_axis_report::write_two(
+        output,
+        probe_report::report_of(probe1, rates1, &held1),
+        probe_report::report_of(probe2, rates2, &held2),
+    );
+}

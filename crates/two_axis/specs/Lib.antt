@@ -1,0 +1,4 @@
+pub mod Axes
+pub mod Probes
+pub mod Accounts
+pub mod Claim

@@ -1,0 +1,26 @@
+-- Two words, written one behind the other.
+use Rattle.two_axis_calls.proofs.Answers.{words-written}
+use borrow.Author.Needs.{needs}
+use Rattle.two_axis_calls.proofs.write_words.Statement.{statement}
+use Rattle.two_axis_calls.proofs.write_words.Tie as tie
+
+write-word-requires : tie.Need-write-word-requires
+write-word-requires c κs = search needs
+
+write-word-requires-2 : tie.Need-write-word-requires-2
+write-word-requires-2 c κs = search needs
+
+same-length : tie.Need-same-length
+same-length c = search needs
+
+returns : tie.Need-returns
+returns c =
+    let two = c .before .before in
+    let one = two .before .before .before .before in
+    let start = one .before .before .before in
+    let a = start .args in
+    rw (two .write-word2 .ensures, one .write-word .ensures) (words-written (a .word1) (a .word2) (a .output .now) (start .pre))
+
+pub write-words-spec : {M : Type 1} → statement M
+write-words-spec =
+    tie.close (tie.spec write-word-requires write-word-requires-2 same-length returns)

@@ -1,0 +1,21 @@
+-- One call of a byte run of two axes, from its bytes, as the code has it and as the accounts are fed it, and the words of its answer: 02, request five.
+use Prim.Native.Nat.{ℕ, _+_}
+use mathlib.Core.List.{List, [], _∷_}
+use Rattle.wire.specs.Words.{floatAt}
+use Rattle.byte_run.specs.ByteRun.{replyWord}
+use Rattle.two_axis.specs.Axes.{first, second, TwoCall, twoCall}
+use Rattle.two_axis_probe.specs.declared.TwoStepped.{TwoStepped}
+use Rattle.two_axis_probe.specs.Stepped.{replyTwo}
+use Rattle.two_axis_calls.specs.declared.TwoCall as code
+
+-- "Each call brings one dt and two pairs of readings": dt, rate 1, moment 1, rate 2, moment 2 at byte i
+unfoldable pub callAt : List ℕ → ℕ → TwoCall
+callAt bytes i = twoCall (floatAt bytes i) (floatAt bytes (i + 4)) (floatAt bytes (i + 8)) (floatAt bytes (i + 12)) (floatAt bytes (i + 16))
+
+-- the code's call as the accounts are fed it
+abbrev pub asCall : code.TwoCall → TwoCall
+asCall c = twoCall (c .dt) (c .rate1) (c .moment1) (c .rate2) (c .moment2)
+
+-- "and answers two offsets": both words of an answer
+abbrev pub answerWords : TwoStepped → List ℕ
+answerWords s = replyWord (replyTwo s first) ∷ replyWord (replyTwo s second) ∷ []

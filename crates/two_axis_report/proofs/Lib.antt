@@ -1,0 +1,3 @@
+pub mod Bytes
+pub mod Fits
+pub mod Reported

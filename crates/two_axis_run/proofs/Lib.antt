@@ -1,0 +1,5 @@
+pub mod Reading
+pub mod Runs
+pub mod Ran
+pub mod Marked
+pub mod Asked
