@@ -1,7 +1,7 @@
 -- One call of a byte run of two axes, from its bytes, as the code has it and as the accounts are fed it, and the words of its answer: 02, request five.
 use Prim.Native.Nat.{ℕ, _+_}
 use mathlib.Core.List.{List, [], _∷_}
-use Rattle.wire.specs.Words.{floatAt}
+use Rattle.wire.specs.Words.{bytesOf, floatAt, writtenWithin}
 use Rattle.byte_run.specs.ByteRun.{replyWord}
 use Rattle.two_axis.specs.Axes.{first, second, TwoCall, twoCall}
 use Rattle.two_axis_probe.specs.declared.TwoStepped.{TwoStepped}
@@ -19,3 +19,7 @@ asCall c = twoCall (c .dt) (c .rate1) (c .moment1) (c .rate2) (c .moment2)
 -- "and answers two offsets": both words of an answer
 abbrev pub answerWords : TwoStepped → List ℕ
 answerWords s = replyWord (replyTwo s first) ∷ replyWord (replyTwo s second) ∷ []
+
+-- written to the front of a slice, each where it fits
+abbrev pub wordsWithin : TwoStepped → List ℕ → List ℕ
+wordsWithin s l = writtenWithin 4 (bytesOf 4 (replyWord (replyTwo s second))) (writtenWithin 0 (bytesOf 4 (replyWord (replyTwo s first))) l)

@@ -1,13 +1,11 @@
 // The calls of a byte run of two axes, one at a time: read from their bytes, and answered by two words.
 ghost use mathlib.Core.Path.{_≡_};
-ghost use mathlib.Core.List.{[], _∷_};
-ghost use Prim.Native.Nat.{_+_, _*_, _≤_};
-ghost use lib.ListN.{length};
-ghost use Rattle.wire.specs.Words.{wordBytes, writtenAt, writtenWithin};
+ghost use Prim.Native.Nat.{_≤_};
+ghost use Rattle.wire.specs.Words.{bytesOf, writtenWithin};
 ghost use Rattle.account.specs.Probe.{number};
 ghost use Rattle.two_axis.specs.Axes.{Axis, first};
 ghost use Rattle.two_axis_probe.specs.Stepped.{probesOf, bothAtEntry, bothAtExit, twoSteppedBy, leavesTwo, replyTwo};
-ghost use Rattle.two_axis_calls.specs.Calls.{callAt, asCall, answerWords};
+ghost use Rattle.two_axis_calls.specs.Calls.{callAt, asCall, wordsWithin};
 use two_axis_probe::TwoAxisProbe;
 use two_axis_probe::TwoStepped;
 
@@ -20,12 +18,10 @@ struct TwoCall {
     moment2: f32,
 }
 
-// The call whose 20 bytes start at byte `at`.
-fn call_at(calls: &[u8], at: usize) -> TwoCall
-    requires { ⌜ at + 20 ≤ length (now calls) ⌝ }
-    ensures { λ r. ⌜ asCall r ≡ callAt (now (calls .entry)) at ⌝ }
+// The call of 20 bytes; one past the end reads as 0.
+fn call_of(bytes: &[u8]) -> TwoCall
+    ensures { λ r. ⌜ asCall r ≡ callAt (now (bytes .entry)) 0 ⌝ }
 {
-    let bytes = &calls[at..at + 20];
     TwoCall {
         dt: wire::read_float(bytes, 0),
         rate1: wire::read_float(bytes, 4),
@@ -35,10 +31,9 @@ fn call_at(calls: &[u8], at: usize) -> TwoCall
     }
 }
 
-// Two words at the front of a slice that has eight bytes.
+// Two words at the front of a slice, each where it fits.
 fn write_words(output: &mut [u8], word1: u32, word2: u32)
-    requires { ⌜ 8 ≤ length (now output) ⌝ }
-    ensures { λ _. ⌜ now (output .exit) ≡ writtenWithin 0 (wordBytes (word1 ∷ word2 ∷ [])) (now (output .entry)) ⌝ }
+    ensures { λ _. ⌜ now (output .exit) ≡ writtenWithin 4 (bytesOf 4 word2) (writtenWithin 0 (bytesOf 4 word1) (now (output .entry))) ⌝ }
 {
     wire::write_word(output, 0, word1);
     wire::write_word(output, 4, word2);
@@ -47,9 +42,9 @@ fn write_words(output: &mut [u8], word1: u32, word2: u32)
 // What a call answers. Its words, the first axis's and then the second's, are written to the first eight bytes of the output: the offsets, 0 of an ended probe, or twice 7FC00000 and the number of the rule that turned the call back.
 // The result is the probe that the call leaves, an ended one or on a refusal the one that it found.
 fn answer(stepped: TwoStepped, probe: TwoAxisProbe, output: &mut [u8]) -> TwoAxisProbe
-    requires { ⌜ (number (replyTwo stepped first) ≤ 8) × (8 ≤ length (now output)) ⌝ }
+    requires { ⌜ number (replyTwo stepped first) ≤ 8 ⌝ }
     ensures probe { λ r. ⌜ probesOf r ≡ leavesTwo stepped (probesOf probe) ⌝ }
-    ensures output { λ r. ⌜ now (output .exit) ≡ writtenWithin 0 (wordBytes (answerWords stepped)) (now (output .entry)) ⌝ }
+    ensures output { λ r. ⌜ now (output .exit) ≡ wordsWithin stepped (now (output .entry)) ⌝ }
 {
     match stepped {
         TwoStepped::Offsets(x, y, next) => {
@@ -68,7 +63,7 @@ fn answer(stepped: TwoStepped, probe: TwoAxisProbe, output: &mut [u8]) -> TwoAxi
     }
 }
 
-// Call k of a run, and its two words.
+// A call from its 20 bytes to its two words, at the front of the output.
 pub fn run_call(
     probe: TwoAxisProbe,
     rates1: &mut [f32; 2048],
@@ -79,16 +74,14 @@ pub fn run_call(
     moments2: &mut [f32; 2048],
     offsets2: &mut [f32; 2048],
     held2: &mut [bool; 2048],
-    calls: &[u8],
-    k: usize,
+    bytes: &[u8],
     output: &mut [u8],
 ) -> TwoAxisProbe
-    requires { ⌜ (20 * k + 20 ≤ length (now calls)) × (77 + 8 * k + 8 ≤ length (now output)) ⌝ }
-    ensures probe { λ r. ⌜ probesOf r ≡ leavesTwo (twoSteppedBy (probesOf probe) (bothAtEntry rates1 moments1 offsets1 held1 rates2 moments2 offsets2 held2) (callAt (now (calls .entry)) (20 * k)) .result) (probesOf probe) ⌝ }
-    ensures lent { λ r. ⌜ ((x : Axis) → bothAtExit rates1 moments1 offsets1 held1 rates2 moments2 offsets2 held2 x ≡ twoSteppedBy (probesOf probe) (bothAtEntry rates1 moments1 offsets1 held1 rates2 moments2 offsets2 held2) (callAt (now (calls .entry)) (20 * k)) .lent x) ⌝ }
-    ensures output { λ r. ⌜ now (output .exit) ≡ writtenAt (77 + 8 * k) (wordBytes (answerWords (twoSteppedBy (probesOf probe) (bothAtEntry rates1 moments1 offsets1 held1 rates2 moments2 offsets2 held2) (callAt (now (calls .entry)) (20 * k)) .result))) (now (output .entry)) ⌝ }
+    ensures probe { λ r. ⌜ probesOf r ≡ leavesTwo (twoSteppedBy (probesOf probe) (bothAtEntry rates1 moments1 offsets1 held1 rates2 moments2 offsets2 held2) (callAt (now (bytes .entry)) 0) .result) (probesOf probe) ⌝ }
+    ensures lent { λ r. ⌜ ((x : Axis) → bothAtExit rates1 moments1 offsets1 held1 rates2 moments2 offsets2 held2 x ≡ twoSteppedBy (probesOf probe) (bothAtEntry rates1 moments1 offsets1 held1 rates2 moments2 offsets2 held2) (callAt (now (bytes .entry)) 0) .lent x) ⌝ }
+    ensures output { λ r. ⌜ now (output .exit) ≡ wordsWithin (twoSteppedBy (probesOf probe) (bothAtEntry rates1 moments1 offsets1 held1 rates2 moments2 offsets2 held2) (callAt (now (bytes .entry)) 0) .result) (now (output .entry)) ⌝ }
 {
-    let call = call_at(calls, 20 * k);
+    let call = call_of(bytes);
     let stepped = probe.step(
         rates1,
         moments1,
@@ -104,6 +97,5 @@ pub fn run_call(
         call.rate2,
         call.moment2,
     );
-    let at = 77 + 8 * k;
-    answer(stepped, probe, &mut output[at..at + 8])
+    answer(stepped, probe, output)
 }

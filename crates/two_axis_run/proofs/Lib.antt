@@ -1,5 +1,4 @@
 pub mod Reading
 pub mod Runs
 pub mod Ran
-pub mod Marked
-pub mod Asked
+pub mod Words

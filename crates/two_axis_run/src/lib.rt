@@ -5,9 +5,11 @@ ghost use lib.ListN.{length};
 ghost use Rattle.wire.specs.Words.{wordBytes, writtenAt};
 ghost use Rattle.window.specs.Lent.{lent, Whole};
 ghost use Rattle.byte_run.specs.ByteRun.{onto};
+ghost use Rattle.two_axis.specs.Axes.{Axis};
 ghost use Rattle.two_axis.specs.Accounts.{openedTwo, accountTwo};
-ghost use Rattle.two_axis_probe.specs.Stepped.{probesOf, bothAtExit};
+ghost use Rattle.two_axis_probe.specs.Stepped.{probesOf, bothAtEntry, bothAtExit, twoSteppedBy, leavesTwo};
 ghost use Rattle.two_axis_probe.specs.Held.{HoldsTwo};
+ghost use Rattle.two_axis_calls.specs.Calls.{callAt, answerWords};
 ghost use Rattle.two_axis_run.specs.TwoAxisRun.{callsOf, wordsOf, written, sizedTwo, twoAxisRun, TellsDelays, TellsModels, TellsSumsOf};
 use account::IdentifyConfig;
 use two_axis_probe::TwoAxisProbe;
@@ -17,6 +19,44 @@ fn is_sized(config: &[u8], calls: &[u8], output: &[u8]) -> bool
     ensures { λ r. ⌜ r ≡ sizedTwo (now (config .entry)) (now (calls .entry)) (now (output .entry)) ⌝ }
 {
     (config.len() == 24) & (calls.len() % 20 == 0) & (77 + 8 * (calls.len() / 20) <= output.len())
+}
+
+// Call k of a run, and its two words.
+fn run_call(
+    probe: TwoAxisProbe,
+    rates1: &mut [f32; 2048],
+    moments1: &mut [f32; 2048],
+    offsets1: &mut [f32; 2048],
+    held1: &mut [bool; 2048],
+    rates2: &mut [f32; 2048],
+    moments2: &mut [f32; 2048],
+    offsets2: &mut [f32; 2048],
+    held2: &mut [bool; 2048],
+    calls: &[u8],
+    k: usize,
+    output: &mut [u8],
+) -> TwoAxisProbe
+    requires { ⌜ (20 * k + 20 ≤ length (now calls)) × (77 + 8 * k + 8 ≤ length (now output)) ⌝ }
+    ensures probe { λ r. ⌜ probesOf r ≡ leavesTwo (twoSteppedBy (probesOf probe) (bothAtEntry rates1 moments1 offsets1 held1 rates2 moments2 offsets2 held2) (callAt (now (calls .entry)) (20 * k)) .result) (probesOf probe) ⌝ }
+    ensures lent { λ r. ⌜ ((x : Axis) → bothAtExit rates1 moments1 offsets1 held1 rates2 moments2 offsets2 held2 x ≡ twoSteppedBy (probesOf probe) (bothAtEntry rates1 moments1 offsets1 held1 rates2 moments2 offsets2 held2) (callAt (now (calls .entry)) (20 * k)) .lent x) ⌝ }
+    ensures output { λ r. ⌜ now (output .exit) ≡ writtenAt (77 + 8 * k) (wordBytes (answerWords (twoSteppedBy (probesOf probe) (bothAtEntry rates1 moments1 offsets1 held1 rates2 moments2 offsets2 held2) (callAt (now (calls .entry)) (20 * k)) .result))) (now (output .entry)) ⌝ }
+{
+    let from = 20 * k;
+    let bytes = &calls[from..from + 20];
+    let at = 77 + 8 * k;
+    two_axis_calls::run_call(
+        probe,
+        rates1,
+        moments1,
+        offsets1,
+        held1,
+        rates2,
+        moments2,
+        offsets2,
+        held2,
+        bytes,
+        &mut output[at..at + 8],
+    )
 }
 
 // The calls of a run one after the other, from a probe just made.
@@ -40,7 +80,7 @@ fn run_calls(
     let mut p = TwoAxisProbe::fresh(config);
     let n = calls.len() / 20;
     for k in 0..n {
-        p = two_axis_calls::run_call(
+        p = run_call(
             p,
             rates1,
             moments1,

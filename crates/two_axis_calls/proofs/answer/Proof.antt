@@ -38,7 +38,7 @@ add-word : tie.Need-add-word
 unfolding replyTwo number
 add-word c =
     let arm = c .before in
-    record { fits = omega (arith, rw (arm .stepped2 .given .1) at (arm .before .before .before .pre .0)) }
+    record { fits = omega (arith, rw (arm .stepped2 .given .1) at (arm .before .before .before .pre)) }
 
 write-words-requires-3 : tie.Need-write-words-requires-3
 write-words-requires-3 c κs = search needs

@@ -1,5 +1,4 @@
 -- Two words, written one behind the other.
-use Rattle.two_axis_calls.proofs.Answers.{words-written}
 use borrow.Author.Needs.{needs}
 use Rattle.two_axis_calls.proofs.write_words.Statement.{statement}
 use Rattle.two_axis_calls.proofs.write_words.Tie as tie
@@ -14,12 +13,7 @@ same-length : tie.Need-same-length
 same-length c = search needs
 
 returns : tie.Need-returns
-returns c =
-    let two = c .before .before in
-    let one = two .before .before .before .before in
-    let start = one .before .before .before in
-    let a = start .args in
-    rw (two .write-word2 .ensures, one .write-word .ensures) (words-written (a .word1) (a .word2) (a .output .now) (start .pre))
+returns c = rw (c .before .before .write-word2 .ensures, c .before .before .before .before .before .before .write-word .ensures)
 
 pub write-words-spec : {M : Type 1} → statement M
 write-words-spec =
