@@ -1,9 +1,9 @@
 /* The rate identifier: a probe that an autopilot steps in flight, for one axis or as a pair for two; one probe, or a pair, over
  * a list of calls, as bytes; and a report's lag and acceleration in plain units.
  *
- * libexports.a has the functions over bytes for one axis, liblive.a those of a probe in flight, and libpair.a all those of two
- * axes. Each stands by itself, and a program may link any of them together. They are built by `rt staticlib exports`,
- * `rt staticlib live` and `rt staticlib pair`, into target/staticlib/ (x86-64).
+ * libexports.a has the functions over bytes for one axis and libtwo_axis_run.a the one for two; liblive.a has those of a probe
+ * in flight and libpair.a those of a pair. Each stands by itself, and a program may link any of them together. They are built
+ * by `rt staticlib exports`, `two_axis_run`, `live` and `pair`, into target/staticlib/ (x86-64).
  *
  * Example: a list of 500 calls of 4 ms from an axis with a lag of 30 ms, whose acceleration settles at 40 rad/s2 for a moment
  * of 1.
@@ -150,7 +150,7 @@ uint32_t identify_plain_units(const uint8_t *report, size_t report_len, uint8_t 
  * Answers 0, or a number, and then no byte is written: 1 to 5, or 9 where config is not 24 bytes, calls are not a multiple of
  * 20 or the output is too short. A call that 6, 7 or 8 turns back is turned back for both axes and changes neither.
  *
- * It takes up to 99,500 bytes of stack.
+ * It takes up to 82,500 bytes of stack.
  */
 uint32_t identify_two_axis_run(const uint8_t *config, size_t config_len, const uint8_t *calls, size_t calls_len,
                                uint8_t *output, size_t output_len);

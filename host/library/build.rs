@@ -1,10 +1,10 @@
 //! Links the static library that the environment variable IDENTIFY_LIB names, where it is set, and
-//! liblive.a and libpair.a, which stand beside it.
+//! those that stand beside it: liblive.a, libtwo_axis_run.a and libpair.a.
 
 fn main() {
     if let Some(library) = archive::named() {
         archive::link(&library);
-        for name in ["liblive.a", "libpair.a"] {
+        for name in ["liblive.a", "libtwo_axis_run.a", "libpair.a"] {
             archive::link(&archive::beside(&library, name));
         }
     }

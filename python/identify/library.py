@@ -3,8 +3,8 @@
 The shared object stands in target/identify/ beside a digest of the sources that it was built from, and is used again while
 theirs is the same, whatever the files' dates are. Where it is not and there is no rt, what is there is used, and a line says
 so. The variable IDENTIFY_LIBRARY names a ready static or shared library (.a or .so) instead; then nothing is built from
-sources. The functions of one axis come from libexports.a, those of two from libpair.a, which is taken in where it stands
-beside the first.
+sources. The functions of one axis come from libexports.a, that of two from libtwo_axis_run.a, which is taken in where it
+stands beside the first.
 """
 from __future__ import annotations
 
@@ -24,9 +24,9 @@ ROOT = Path(__file__).resolve().parents[2]
 VARIABLE = "IDENTIFY_LIBRARY"
 READY_INSTEAD = f"set {VARIABLE} to a ready libexports.a or libidentify.so"
 PROVER = "rt"
-BUILD_COMMANDS = ((PROVER, "staticlib", "exports"), (PROVER, "staticlib", "pair"))
+BUILD_COMMANDS = ((PROVER, "staticlib", "exports"), (PROVER, "staticlib", "two_axis_run"))
 ARCHIVE = Path("target/staticlib/libexports.a")
-PAIR = "libpair.a"
+TWO_AXES = "libtwo_axis_run.a"
 SHARED = Path("target/identify/libidentify.so")
 DIGEST = Path("target/identify/sources.sha256")
 UNBUILT_FOLDERS = {"must-fail", "data"}
@@ -60,7 +60,7 @@ def two_axis_run() -> Callable[..., int]:
     except AttributeError as error:
         raise LibraryError(
             f"the library has no function {TWO_AXIS_RUN}, which two axes need; set {VARIABLE} to a ready {ARCHIVE.name} with "
-            f"{PAIR} beside it, or to a {SHARED.name} made of both"
+            f"{TWO_AXES} beside it, or to a {SHARED.name} made of both"
         ) from error
 
 
@@ -169,8 +169,8 @@ def left_there(root: Path) -> Path:
 
 def link(archive: Path, shared: Path) -> None:
     """Makes a shared object of a static library and of the one for two axes where that stands beside it."""
-    pair = archive.with_name(PAIR)
-    archives = (str(archive), str(pair)) if pair.is_file() else (str(archive),)
+    two_axes = archive.with_name(TWO_AXES)
+    archives = (str(archive), str(two_axes)) if two_axes.is_file() else (str(archive),)
     command(("cc", "-shared", "-o", str(shared), "-Wl,--whole-archive", *archives, "-Wl,--no-whole-archive"), archive.parent)
 
 

@@ -7,6 +7,7 @@ the quality doubts.
 """
 from __future__ import annotations
 
+import functools
 import math
 import random
 import sys
@@ -58,8 +59,8 @@ def lengthened(columns: Columns, ticks: int) -> Columns:
 
 def flown(flight: make_flights.Flight) -> Columns:
     """A flight flown with the default configuration."""
-    dt, loop, _ = make_flights.fly(flight, identify.Config())
-    return dt, loop.rates, loop.moments
+    log = flown_flight(flight).log
+    return log.dt[:], log.rate[:], log.moment[:]
 
 
 def lost_samples() -> Columns:
@@ -102,11 +103,37 @@ ALTERED = {
 """Flights whose answer no fitter should use as it stands."""
 
 
+def log_of(columns: Columns, axis: str = "") -> identify.Log:
+    """A log of these columns. Its first call stands on line 2."""
+    return identify.Log("flight.csv", *columns, list(range(2, len(columns[0]) + 2)), axis)
+
+
 def identified(columns: Columns, config: identify.Config = identify.Config()) -> identify.Flight:
-    """A flight with its report. Its first call stands on line 2."""
-    dt, rate, moment = columns
-    log = identify.Log("flight.csv", dt, rate, moment, list(range(2, len(dt) + 2)))
-    return identify.Flight(log, config, identify.run(config, dt, rate, moment))
+    """A flight with its report."""
+    return identify.Flight(log_of(columns), config, identify.run(config, *columns))
+
+
+def fly(flight: make_flights.Flight) -> identify.Flight:
+    """A flight flown with the default configuration, with its report."""
+    config = identify.Config()
+    dt, loop, report = make_flights.fly(flight, config)
+    return identify.Flight(log_of((dt, loop.rates, loop.moments)), config, report)
+
+
+# These are made once for all tests, none of which changes them.
+flown_flight = functools.cache(fly)
+
+
+@functools.cache
+def demo_flight(name: str) -> identify.Flight:
+    """A flight of the demo, with its report."""
+    return identified(demo_columns(name))
+
+
+@functools.cache
+def altered_flight(name: str) -> identify.Flight:
+    """One of the altered flights, with its report."""
+    return identified(ALTERED[name]())
 
 
 def codes(flight: identify.Flight) -> list[str]:
@@ -184,7 +211,7 @@ def trials(count: int, gusts: float) -> Iterator[Trial]:
             gusts=gusts,
             tick_s=tick_s,
         )
-        flight = identified(flown(airframe))
+        flight = fly(airframe)
         if flight.report.model:
             yield Trial(airframe, flight)
 

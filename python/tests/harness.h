@@ -6,6 +6,8 @@
  *     open < records              a configuration and the options each; a line each: the answer, and whether it wrote
  *     turned < records            a call each on a struct in flight, after its numbers; lines as above
  *     garbage COUNT               structs that nobody opened, or that a stray write has changed
+ *     memory COUNT < flights      for valgrind: flies each, which a word with the number of its calls precedes, on the heap
+ *                                 alone; then garbage, held against nothing else
  *
  * Configurations and calls are those of a run over bytes. A check that fails ends the program with a line and status 1.
  *
@@ -20,7 +22,7 @@
 #include <unistd.h>
 
 enum { PAGE = 4096, AREA = (SIZE + PAGE - 1) / PAGE * PAGE, POISON = 0xa5, THREADS = 8, LONGEST_RUN_S = 100 };
-enum { CONFIG = 24, MOST_CALLS = 4000, SHIFT = 16 };
+enum { CONFIG = 24, MOST_CALLS = 5000, SHIFT = 16 };
 enum { INPUT = CONFIG + CALL * MOST_CALLS, OUTPUT = REPORT + OFFSET * MOST_CALLS + STATUS };
 
 typedef struct guarded guarded;
@@ -29,7 +31,7 @@ typedef struct flight flight;
 static void fly(guarded at, flight it);
 static void open_each(const uint8_t *input, size_t len);
 static void turn_back_each(const uint8_t *input, size_t len);
-static void step_garbage(uint32_t count);
+static void step_garbage(uint32_t count, int bare);
 
 #define CHECK(so) ((so) ? (void)0 : fail(#so, __FILE__, __LINE__))
 
@@ -181,21 +183,33 @@ static flight flight_from(const uint8_t *input, size_t len, size_t first)
     return it;
 }
 
-static void fly_in_each_place(const uint8_t *input, size_t len)
+/* In this place, and in those after it. */
+static void fly_from(enum place start, const uint8_t *input, size_t len)
 {
     const flight it = flight_from(input, len, 0);
     uint8_t *first = (uint8_t *)malloc(OUTPUT);
     CHECK(first != NULL);
-    for (int place = FRONT; place < PLACES; place++) {
+    for (int place = start; place < PLACES; place++) {
         const guarded at = placed((enum place)place);
         fly(at, it);
-        CHECK(place == FRONT || memcmp(first, it.output, output_len(it)) == 0);
+        CHECK(place == (int)start || memcmp(first, it.output, output_len(it)) == 0);
         memcpy(first, it.output, output_len(it));
         give_back(at);
     }
     fwrite(first, 1, output_len(it), stdout);
     free(first);
     free(it.output);
+}
+
+/* Flights one after another, each after the number of its calls. */
+static void fly_on_the_heap(const uint8_t *input, size_t len)
+{
+    for (size_t k = 0; k < len;) {
+        const size_t size = CONFIG + CALL * (size_t)word_at(input + k);
+        CHECK(k + 4 + size <= len);
+        fly_from(HEAP, input + k + 4, size);
+        k += 4 + size;
+    }
 }
 
 static pthread_barrier_t all_ready;
@@ -315,12 +329,18 @@ int main(int count, char **words)
     alarm(LONGEST_RUN_S);
     if (strcmp(words[1], "garbage") == 0) {
         CHECK(count == 3);
-        step_garbage((uint32_t)strtoul(words[2], NULL, 10));
+        step_garbage((uint32_t)strtoul(words[2], NULL, 10), 0);
         return 0;
     }
     const size_t len = fread(input, 1, sizeof input, stdin);
+    if (strcmp(words[1], "memory") == 0) {
+        CHECK(count == 3);
+        fly_on_the_heap(input, len);
+        step_garbage((uint32_t)strtoul(words[2], NULL, 10), 1);
+        return 0;
+    }
     if (strcmp(words[1], "fly") == 0)
-        fly_in_each_place(input, len);
+        fly_from(FRONT, input, len);
     else if (strcmp(words[1], "threads") == 0)
         fly_in_threads(input, len);
     else if (strcmp(words[1], "open") == 0)

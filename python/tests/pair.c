@@ -275,7 +275,7 @@ static void check_step(guarded at, const identify_pair *before, const call *now,
     CHECK(is_stepped(&at.it->second, &before->second, &second, &first, now, 1));
 }
 
-static void step_garbage(uint32_t count)
+static void step_garbage(uint32_t count, int bare)
 {
     static identify_pair before;
     const guarded at = placed(END);
@@ -288,7 +288,8 @@ static void step_garbage(uint32_t count)
             const uint32_t answer = step(at, &now);
             CHECK(answer == 0 || (answer >= 6 && answer <= 8));
             CHECK(answer == 0 || memcmp(at.it, &before, sizeof before) == 0);
-            check_step(at, &before, &now, answer);
+            if (!bare)
+                check_step(at, &before, &now, answer);
             look(at, told);
         }
     }

@@ -1,24 +1,31 @@
-"""What the tests share: the package's path, a made flight, the command, and C programs linked with a library."""
+"""What the tests share: the package's path, a made flight, the command, pictures, and C programs linked with a library."""
 from __future__ import annotations
 
+import contextlib
 import functools
+import io
 import os
 import random
+import signal
 import subprocess
 import sys
 import unittest
-from collections.abc import Sequence
+import warnings
+from collections.abc import Callable, Sequence
 from pathlib import Path
+from typing import Any
+from unittest import mock
 
 ROOT = Path(__file__).resolve().parents[2]
 DEMO = ROOT / "demo"
 HEADER = ROOT / "include/identify.h"
 INCLUDES = (HEADER.parent, ROOT / "examples", ROOT / "python/tests")
 """Where the sources that the tests compile find their headers."""
+COMMAND = (sys.executable, str(ROOT / "identify"))
 sys.path.insert(0, str(ROOT / "python"))
 
 import identify
-from identify import library
+from identify import cli, library
 
 M1_CONFIG = identify.Config(1.0, 1.0, 0.5, None)
 M1_REPORT = "800000020020000020000000" + "00" * 24
@@ -92,13 +99,29 @@ def byte_library() -> Path:
     return Path(named).resolve() if named else library.built(ROOT)
 
 
+def shared_library(folder: Path) -> Path:
+    """The same as a shared object, which loads where there is no linker: an archive is linked in `folder`."""
+    path = byte_library()
+    if path.suffix != ".a":
+        return path
+    shared = folder / library.SHARED.name
+    library.link(path, shared)
+    return shared
+
+
+def two_axis_library() -> Path:
+    """The library of the function over bytes for two axes: libtwo_axis_run.a, or a shared object that has it too."""
+    path = byte_library()
+    return path.with_name(library.TWO_AXES) if path.suffix == ".a" else path
+
+
 def live_library() -> Path:
     """The library of a probe in flight, liblive.a."""
     return ready_archive("live")
 
 
 def pair_library() -> Path:
-    """The library of two axes, libpair.a."""
+    """The library of a pair in flight, libpair.a."""
     return ready_archive("pair")
 
 
@@ -136,5 +159,43 @@ def compiled(
 
 
 def command(*words: str, given: str = "") -> subprocess.CompletedProcess[str]:
-    """Runs ./identify."""
-    return subprocess.run([sys.executable, str(ROOT / "identify"), *words], input=given, capture_output=True, text=True)
+    """Runs ./identify, a process of its own."""
+    return subprocess.run([*COMMAND, *words], input=given, capture_output=True, text=True)
+
+
+def main(*words: str, given: str = "") -> subprocess.CompletedProcess[str]:
+    """Runs the command in this process, with streams of bytes as ./identify has them. The library is the one loaded here,
+    whatever the environment names."""
+    stdin, stdout, stderr = (
+        io.TextIOWrapper(io.BytesIO(text.encode()), "utf8", "backslashreplace") for text in (given, "", "")
+    )
+    with mock.patch.object(sys, "stdin", stdin), contextlib.redirect_stdout(stdout), contextlib.redirect_stderr(stderr):
+        try:
+            status = cli.main(words)
+        except SystemExit as end:
+            status = end.code
+    stderr.flush()
+    written = (stream.buffer.getvalue().decode("utf8", "surrogateescape") for stream in (stdout, stderr))
+    return subprocess.CompletedProcess(words, status, *written)
+
+
+main_once = functools.cache(main)
+"""The command in this process over a log that is the same for all tests, run once for each list of words."""
+
+
+def default_interrupt() -> None:
+    """Gives a child that is about to start the usual action for SIGINT, which it ignores where its parent does."""
+    signal.signal(signal.SIGINT, signal.SIG_DFL)
+
+
+def render(paint: Callable[[Any], None]) -> None:
+    """Renders what `paint` draws on a small figure, without the layout: that hangs on the words, and takes as long again.
+    Needs matplotlib."""
+    from matplotlib.backends.backend_agg import FigureCanvasAgg
+    from matplotlib.figure import Figure
+
+    with warnings.catch_warnings():
+        warnings.simplefilter("ignore")
+        figure = Figure(figsize=(4, 3))
+        paint(figure)
+        FigureCanvasAgg(figure).draw()

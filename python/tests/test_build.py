@@ -19,20 +19,37 @@ FAKE_RT = """#!/bin/sh
 echo "rt: $2 proved"
 echo "a note"
 mkdir -p target/staticlib
-case $2 in
-    exports) names=${FAKE_RT_FUNCTIONS:-identify_byte_run identify_plain_units} ;;
-    pair) names=identify_two_axis_run ;;
-esac
-for name in $names; do
-    echo "unsigned $name(void) { return 0; }"
-done > target/stub.c
-cc -c -fPIC target/stub.c -o target/stub.o && ar rcs target/staticlib/lib$2.a target/stub.o
+name=$2
+if [ $name = exports ]; then name=${FAKE_RT_EXPORTS:-exports}; fi
+cp "$FAKE_RT_ARCHIVES/$name.a" target/staticlib/lib$2.a
 exit ${FAKE_RT_STATUS:-0}
 """
+FUNCTIONS = {
+    "exports": ("identify_byte_run", "identify_plain_units"),
+    "lacking": ("identify_byte_run",),
+    "two_axis_run": ("identify_two_axis_run",),
+}
+"""The archives that this rt has, and the functions in each."""
+
+
+def make_archives(folder):
+    """Makes these archives in a folder."""
+    for name, functions in FUNCTIONS.items():
+        source = "".join(f"unsigned {function}(void) {{ return 0; }}\n" for function in functions)
+        words = ("cc", "-c", "-fPIC", "-x", "c", "-", "-o", str(folder / f"{name}.o"))
+        subprocess.run(words, input=source, text=True, check=True)
+        subprocess.run(("ar", "rcs", str(folder / f"{name}.a"), str(folder / f"{name}.o")), check=True)
 
 
 class FirstUse(unittest.TestCase):
     """Build, reuse, rebuild."""
+
+    @classmethod
+    def setUpClass(cls):
+        folder = tempfile.TemporaryDirectory()
+        cls.addClassCleanup(folder.cleanup)
+        cls.archives = folder.name
+        make_archives(Path(folder.name))
 
     def setUp(self):
         folder = tempfile.TemporaryDirectory()
@@ -52,7 +69,8 @@ class FirstUse(unittest.TestCase):
     def built(self, **variables):
         """Builds where it is needed; answers what was said on standard error."""
         errors = io.StringIO()
-        with mock.patch.dict(os.environ, {"PATH": self.path, **variables}), contextlib.redirect_stderr(errors):
+        environment = {"PATH": self.path, "FAKE_RT_ARCHIVES": self.archives, **variables}
+        with mock.patch.dict(os.environ, environment), contextlib.redirect_stderr(errors):
             self.shared = library.built(self.root)
         return errors.getvalue()
 
@@ -66,8 +84,8 @@ class FirstUse(unittest.TestCase):
 
     def test_builds_once_and_says_so(self):
         said = self.built()
-        self.assertIn("identify: building the proved library (rt staticlib exports, rt staticlib pair, then cc)", said)
-        self.assertIn("rt: exports proved\nrt: pair proved\n", said)
+        self.assertIn("identify: building the proved library (rt staticlib exports, rt staticlib two_axis_run, then cc)", said)
+        self.assertIn("rt: exports proved\nrt: two_axis_run proved\n", said)
         self.assertNotIn("a note", said)
         opened = library.open_shared(self.shared)
         self.assertTrue(opened.identify_byte_run and opened.identify_plain_units and opened.identify_two_axis_run)
@@ -150,12 +168,12 @@ class FirstUse(unittest.TestCase):
         self.built()
         archive = self.root / library.ARCHIVE
         self.assertTrue(library.open_library(archive).identify_two_axis_run)
-        archive.with_name(library.PAIR).unlink()
+        archive.with_name(library.TWO_AXES).unlink()
         opened = library.open_library(archive)
         self.assertTrue(opened.identify_byte_run)
         with mock.patch.object(library, "load", return_value=opened), self.assertRaisesRegex(
             identify.LibraryError, "no function identify_two_axis_run, which two axes need; set IDENTIFY_LIBRARY to a ready "
-            "libexports.a with libpair.a beside it, or to a libidentify.so made of both"
+            "libexports.a with libtwo_axis_run.a beside it, or to a libidentify.so made of both"
         ):
             library.two_axis_run()
 
@@ -164,7 +182,7 @@ class FirstUse(unittest.TestCase):
             self.built(FAKE_RT_STATUS="3")
 
     def test_library_that_lacks_a_function(self):
-        self.built(FAKE_RT_FUNCTIONS="identify_byte_run")
+        self.built(FAKE_RT_EXPORTS="lacking")
         with self.assertRaisesRegex(identify.LibraryError, "identify_plain_units"):
             library.open_shared(self.shared)
 

@@ -8,7 +8,7 @@ from dataclasses import replace
 from pathlib import Path
 
 from flights import ALTERED, NOISY, flown
-from support import DEMO, ROOT, command, gainless_flight, identify, log_text, made_flight, wild_log
+from support import DEMO, ROOT, command, gainless_flight, identify, log_text, made_flight, main, main_once, wild_log
 
 from identify import checks
 from identify.words import unsigned_zero
@@ -36,10 +36,10 @@ class Good(unittest.TestCase):
         self.assertRegex(result.stdout, r"\n  lag             24\.6\d ms\n  push            7[45]\.\d\d rad/s² per unit moment\n")
 
     def test_one_tick_in_words(self):
-        self.assertIn("delay           1 tick, 4.00 ms\n", command("-", given=log_text(*made_flight(1))).stdout)
+        self.assertIn("delay           1 tick, 4.00 ms\n", main("-", given=log_text(*made_flight(1))).stdout)
 
     def test_zeros_have_no_minus(self):
-        result = command("-", given=log_text(*ALTERED["moments of noise"]()))
+        result = main("-", given=log_text(*ALTERED["moments of noise"]()))
         self.assertIn("rate weights    1  0  of", result.stdout)
         self.assertIn("moment weights  -0.04459888  0  0  of", result.stdout)
         for number, shown in (("-0", "0"), ("-0.00", "0.00"), ("-0.01", "-0.01"), ("0", "0"), ("nan", "nan"), ("-inf", "-inf")):
@@ -47,93 +47,93 @@ class Good(unittest.TestCase):
 
     def test_quality_in_words(self):
         self.assertIn("fit             explains 100.0% of the rate's change over 0.2 s, the gyro's noise 0.0%; 2 ticks "
-                      "earlier 99.2%, later 99.2%\n", command(str(DEMO / "clean.csv")).stdout)
+                      "earlier 99.2%, later 99.2%\n", main_once(str(DEMO / "clean.csv")).stdout)
         self.assertIn("fit             not tried, no good stretch of 0.2 s\n",
-                      command("-", given=log_text(*ALTERED["one dt of 3000 s"]())).stdout)
+                      main("-", given=log_text(*ALTERED["one dt of 3000 s"]())).stdout)
 
     def test_a_full_window_in_words(self):
         for ticks, words in ((400, "full at 5.12 s"), (300, "extended from 6 s, full at 6.827 s")):
-            result = command("-", given=log_text(*flown(replace(NOISY, tick_s=1 / ticks, dropouts=()))))
+            result = main("-", given=log_text(*flown(replace(NOISY, tick_s=1 / ticks, dropouts=()))))
             self.assertIn(f"done, by the integrated fit (a noisy window, {words})\n", result.stdout)
-        result = command("-", "--duration", "11", "--no-extension", given=log_text(*made_flight(3, ticks=3000)))
+        result = main("-", "--duration", "11", "--no-extension", given=log_text(*made_flight(3, ticks=3000)))
         self.assertIn("done, by the fit on the recorded rates (a quiet window, full at 8.192 s)\n", result.stdout)
 
     def test_moments_in_percent_are_not_blamed_on_the_gains(self):
-        result = command("-", given=log_text(*ALTERED["moment in percent"]()))
+        result = main("-", given=log_text(*ALTERED["moment in percent"]()))
         words = " ".join(result.stdout.split())
         self.assertIn("1006 of 1500 moments (67%) are at the limit, more than a fifth, and the window is noisy. See the "
                       "warning about their unit. warning", words)
         self.assertNotIn("gains", words)
 
     def test_no_lag_in_words(self):
-        result = command("-", given=log_text(*made_flight(3, pole=-0.2)))
+        result = main("-", given=log_text(*made_flight(3, pole=-0.2)))
         self.assertRegex(result.stdout, r"\n  lag             0\.00 ms, the fit sees no lag\n  push            11\.2\d rad/s² ")
 
     def test_neither_lag_nor_push_in_words(self):
-        result = command("-", "--duration", "1", given=UNSETTLED)
+        result = main("-", "--duration", "1", given=UNSETTLED)
         self.assertEqual((result.returncode, result.stderr), (0, ""))
         why = r"none: a model settles only with a pole below 1, and here it is 1\.0\d*\n"
         self.assertRegex(result.stdout, rf"\n  lag, push       {why}")
         self.assertNotIn("rad/s²", result.stdout)
 
     def test_whole_delay_in_words(self):
-        result = command(str(DEMO / "clean.csv"))
+        result = main_once(str(DEMO / "clean.csv"))
         self.assertIn("done, by the fit on the recorded rates (a quiet window)", result.stdout)
         self.assertIn("3 ticks, 12.00 ms", result.stdout)
 
     def test_saturated_flight_says_what_to_do(self):
-        result = command(str(DEMO / "saturated.csv"))
+        result = main_once(str(DEMO / "saturated.csv"))
         self.assertEqual(result.returncode, 0)
         self.assertIn("gave up: saturated", result.stdout)
         self.assertIn("774 of 1500 moments (52%)", result.stdout)
         self.assertIn("Lower the rate loop's gains or the amplitude", result.stdout)
 
     def test_too_few_rows(self):
-        result = command("-", *M1_OPTIONS, given=HEADER + "0.25,0,0\n" * 4)
+        result = main("-", *M1_OPTIONS, given=HEADER + "0.25,0,0\n" * 4)
         self.assertIn("gave up: unexcited", result.stdout)
         self.assertIn("only 0 rows to fit", result.stdout)
 
     def test_moment_that_does_not_move(self):
-        result = command("-", *M1_OPTIONS, given=HEADER + "0.01,0,0\n" * 101)
+        result = main("-", *M1_OPTIONS, given=HEADER + "0.01,0,0\n" * 101)
         self.assertIn("gave up: unexcited", result.stdout)
         self.assertIn("did not move the moment enough", " ".join(result.stdout.split()))
 
     def test_log_that_ends_early(self):
-        result = command("-", given=HEADER + "0.25,0,0\n" * 4)
+        result = main("-", given=HEADER + "0.25,0,0\n" * 4)
         self.assertEqual(result.returncode, 0)
         self.assertIn("still running", result.stdout)
         self.assertIn("the log ends after 1 s, before the duration of 6 s", result.stdout)
 
     def test_log_that_ends_a_hair_early(self):
-        result = command("-", "--duration", "12", "--no-extension", given=log_text(*made_flight(3, ticks=3000)))
+        result = main("-", "--duration", "12", "--no-extension", given=log_text(*made_flight(3, ticks=3000)))
         self.assertIn("the log ends after 11.9998598 s, before the duration of 12 s", result.stdout)
 
     def test_log_that_ends_in_the_extension(self):
         lines = (DEMO / "noisy.csv").read_text().splitlines(keepends=True)
-        result = command("-", given="".join(lines[:1700]))
+        result = main("-", given="".join(lines[:1700]))
         self.assertIn("the window was noisy at 6 s and goes on to 8 s", " ".join(result.stdout.split()))
 
     def test_a_duration_longer_than_the_extension_that_nobody_typed(self):
-        found = json.loads(command(str(DEMO / "clean.csv"), "--duration", "9", "--json").stdout)
+        found = json.loads(main_once(str(DEMO / "clean.csv"), "--duration", "9", "--json").stdout)
         self.assertEqual((found["config"]["duration_s"], found["config"]["extension"]["duration_s"]), (9.0, 9.0))
         given = log_text(*(column[:] for column in flown(replace(NOISY, seconds=9.2))))
-        result = command("-", "--duration", "9", given=given)
+        result = main("-", "--duration", "9", given=given)
         self.assertIn("done, by the integrated fit (a noisy window, full at 8.192 s)\n", result.stdout)
 
     def test_no_extension(self):
-        result = command(str(DEMO / "noisy.csv"), "--no-extension")
+        result = main_once(str(DEMO / "noisy.csv"), "--no-extension")
         self.assertIn("done, by the integrated fit (a noisy window)\n", result.stdout)
         self.assertIn("ticks 1500", result.stdout)
 
     def test_columns_in_any_order_and_others(self):
         given = "Note, moment ,t,rate,dt\n" + "x,nan,1,inf,0.25\n\n" + ",0,y,0,0.25\n" * 3
-        result = command("-", *M1_OPTIONS, given=given)
+        result = main("-", *M1_OPTIONS, given=given)
         self.assertEqual((result.returncode, result.stderr), (0, ""))
         self.assertIn("ticks 4, stored 4, held 1", result.stdout)
 
     def test_refused_calls_are_counted_and_named(self):
         given = HEADER + "0.25,0,0\n0,0,0\n" + "nan,0,0\n" * 6 + "5000,0,0\n" + "0.25,0,0\n" * 3
-        result = command("-", *M1_OPTIONS, given=given)
+        result = main("-", *M1_OPTIONS, given=given)
         self.assertEqual(result.returncode, 0)
         self.assertIn("12 in the log, 8 turned back", result.stdout)
         self.assertIn("dt not positive and finite: 7 turned back (lines 3, 4, 5, 6, 7 and 2 more)", result.stdout)
@@ -145,10 +145,10 @@ class Wild(unittest.TestCase):
     integrated fit does."""
 
     def model(self, given):
-        return json.loads(command("-", "--json", given=given).stdout)["model"]
+        return json.loads(main("-", "--json", given=given).stdout)["model"]
 
     def test_rates_further_apart_than_a_single_holds(self):
-        result = command("-", given=wild_log("noisy.csv", 803, ["3e38", "-3e38"] * 3))
+        result = main("-", given=wild_log("noisy.csv", 803, ["3e38", "-3e38"] * 3))
         self.assertEqual((result.returncode, result.stderr), (0, ""))
         words = " ".join(result.stdout.split())
         self.assertIn("gave up: unexcited the window is noisy, and no fit of it has a finite gain and a finite error. See "
@@ -158,11 +158,11 @@ class Wild(unittest.TestCase):
         self.assertNotIn("weights", words)
 
     def test_one_wild_reading(self):
-        result = command("-", given=wild_log("noisy.csv", 803, ["-3.4e38"]))
+        result = main("-", given=wild_log("noisy.csv", 803, ["-3.4e38"]))
         self.assertIn("1 rate is beyond 1,000 rad/s (line 803, the first -3.4e+38)", " ".join(result.stdout.split()))
 
     def test_wild_readings_that_rows_see(self):
-        result = command("-", given=wild_log("noisy.csv", 803, ["3e38", "-3e38"], around="0"))
+        result = main("-", given=wild_log("noisy.csv", 803, ["3e38", "-3e38"], around="0"))
         words = " ".join(result.stdout.split())
         self.assertIn("gave up: unexcited no fit of the window has finite numbers. See the warning about its rates. warning "
                       "2 rates are beyond 1,000 rad/s (lines 803 to 804, the first 3e+38)", words)
@@ -172,7 +172,7 @@ class Wild(unittest.TestCase):
         lines = (DEMO / "noisy.csv").read_text().splitlines()
         for number, rate in ((803, "3e38"), (804, "-3e38")):
             lines[number - 1] = f"0,0.004,{rate},nan,0"
-        words = " ".join(command("-", given="\n".join(lines)).stdout.split())
+        words = " ".join(main("-", given="\n".join(lines)).stdout.split())
         self.assertIn("2 rates are beyond 1,000 rad/s (lines 803 to 804, the first 3e+38)", words)
 
     def test_written_as_lost_they_are_held(self):
@@ -193,7 +193,7 @@ class Readme(unittest.TestCase):
         self.text = (ROOT / "README.md").read_text(encoding="utf8")
 
     def test_the_printed_report(self):
-        printed = command(str(DEMO / "noisy.csv")).stdout.replace(f"{DEMO}/", "demo/")
+        printed = main_once(str(DEMO / "noisy.csv")).stdout.replace(f"{DEMO}/", "demo/")
         self.assertIn(f"```\n{printed}```\n", self.text)
 
     def test_the_codes(self):
@@ -228,20 +228,20 @@ class Json(unittest.TestCase):
         for tick, half_ticks in ((10, 3), (11, 2)):
             config, *flight = gainless_flight(tick)
             words = ("-", "--json", "--no-extension", "--duration", str(config.duration_s))
-            found = json.loads(command(*words, given=log_text(*flight)).stdout)["model"]
+            found = json.loads(main(*words, given=log_text(*flight)).stdout)["model"]
             self.assertEqual((found["delay_half_ticks"], found["moment_weights"]), (half_ticks, [0.0, 0.0, 0.0]))
 
     def test_lag_and_push(self):
-        found = json.loads(command("-", "--json", given=log_text(*made_flight(3))).stdout)["model"]
+        found = json.loads(main("-", "--json", given=log_text(*made_flight(3))).stdout)["model"]
         self.assertAlmostEqual(found["lag_s"], 0.02461, delta=1e-4)
         self.assertAlmostEqual(found["accel_radps2"], 75, delta=0.5)
 
     def test_neither_lag_nor_push(self):
-        found = json.loads(command("-", "--json", "--duration", "1", given=UNSETTLED).stdout)
+        found = json.loads(main("-", "--json", "--duration", "1", given=UNSETTLED).stdout)
         self.assertEqual((found["ending"], found["model"]["lag_s"], found["model"]["accel_radps2"]), ("done", None, None))
 
     def test_refused_calls(self):
-        found = json.loads(command("-", *M1_OPTIONS, "--json", given=HEADER + "0.25,0,0\n0,0,0\n" + "0.25,0,0\n" * 3).stdout)
+        found = json.loads(main("-", *M1_OPTIONS, "--json", given=HEADER + "0.25,0,0\n0,0,0\n" + "0.25,0,0\n" * 3).stdout)
         self.assertEqual(found["calls"], {"in_log": 5, "turned_back": 1, "after_end": 0})
         self.assertEqual(found["turned_back"], [{"line": 3, "call": 1, "rule": 6, "why": identify.RULES[6]}])
         self.assertEqual(found["ending"], "unexcited")
@@ -256,8 +256,8 @@ class Json(unittest.TestCase):
 class Bad(unittest.TestCase):
     """Bad input: one line that names file, line and rule; status 2."""
 
-    def complains(self, *words, given="", expected=()):
-        result = command(*words, given=given)
+    def complains(self, *words, given="", expected=(), run=main):
+        result = run(*words, given=given)
         self.assertEqual((result.returncode, result.stdout), (2, ""))
         self.assertEqual(result.stderr.count("\n"), 1, result.stderr)
         self.assertTrue(result.stderr.startswith("identify: "))
@@ -265,13 +265,13 @@ class Bad(unittest.TestCase):
             self.assertIn(part, result.stderr)
 
     def test_no_such_file(self):
-        self.complains("no-such-flight.csv", expected=("no-such-flight.csv", "No such file"))
+        self.complains("no-such-flight.csv", expected=("no-such-flight.csv", "No such file"), run=command)
 
     def test_folder(self):
         self.complains(str(DEMO), expected=("directory",))
 
     def test_empty(self):
-        self.complains("-", expected=("standard input:1", "no header line"))
+        self.complains("-", expected=("standard input:1", "no header line"), run=command)
 
     def test_header_only(self):
         self.complains("-", given=HEADER + "\n", expected=("standard input: a header line and no line below it",))
@@ -333,7 +333,7 @@ class Bad(unittest.TestCase):
         self.complains(flight, *both, expected=("--extension-duration 8, --duration 9: refused by rule 5",))
 
     def test_option_without_number(self):
-        self.complains("x.csv", "--duration", "long", expected=("--duration", "long"))
+        self.complains("x.csv", "--duration", "long", expected=("--duration", "long"), run=command)
 
     def test_extension_options_that_exclude_each_other(self):
         self.complains("x.csv", "--no-extension", "--extension-duration", "9", expected=("--no-extension excludes",))

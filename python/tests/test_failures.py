@@ -4,7 +4,6 @@ import os
 import random
 import signal
 import subprocess
-import sys
 import tempfile
 import time
 import unittest
@@ -12,18 +11,22 @@ from pathlib import Path
 from unittest import mock
 
 from flights import identified, odd_columns
-from support import DEMO, ROOT, command, identify
+from support import COMMAND, DEMO, command, default_interrupt, identify, shared_library
 
-from identify import library, words
+from identify import words
 
 NOISY = str(DEMO / "noisy.csv")
-COMMAND = (sys.executable, str(ROOT / "identify"))
 
 
 def shell(line, **variables):
     """A line of shell in which $identify is the command and $noisy a flight."""
     words = {"identify": " ".join(COMMAND), "noisy": NOISY, **variables}
     return subprocess.run(("bash", "-c", line), env={**os.environ, **words}, capture_output=True)
+
+
+def started(*words, **streams):
+    """The command, just started; it can be interrupted however these tests were started."""
+    return subprocess.Popen((*COMMAND, *words), stderr=subprocess.PIPE, preexec_fn=default_interrupt, **streams)
 
 
 class Streams(unittest.TestCase):
@@ -59,8 +62,7 @@ class Streams(unittest.TestCase):
             self.assertEqual((result.returncode, result.stdout == b""), (status, status != 0))
 
     def test_interrupted(self):
-        process = subprocess.Popen((*COMMAND, "-"), stdin=subprocess.PIPE, stdout=subprocess.PIPE, stderr=subprocess.PIPE)
-        with process:
+        with started("-", stdin=subprocess.PIPE, stdout=subprocess.PIPE) as process:
             process.stdin.write(b"dt,rate,moment\n")
             process.stdin.flush()
             # Once all that was written is read, the command waits for more.
@@ -72,7 +74,7 @@ class Streams(unittest.TestCase):
     def test_interrupted_at_any_time(self):
         for wait_s in (0.03, 0.05, 0.08, 0.12, 0.2):
             with self.subTest(wait_s=wait_s):
-                with subprocess.Popen((*COMMAND, NOISY), stdout=subprocess.DEVNULL, stderr=subprocess.PIPE) as process:
+                with started(NOISY, stdout=subprocess.DEVNULL) as process:
                     time.sleep(wait_s)
                     process.send_signal(signal.SIGINT)
                     said = process.stderr.read()
@@ -144,9 +146,10 @@ class Library(unittest.TestCase):
         self.assertEqual(result.stderr, "identify: IDENTIFY_LIBRARY names /nonexistent/libexports.a: no such file\n")
 
     def test_named_and_no_other_program(self):
-        named = {"IDENTIFY_LIBRARY": str(library.built(ROOT)), "PATH": "/nonexistent"}
-        with mock.patch.dict(os.environ, named):
-            result = command(NOISY)
+        with tempfile.TemporaryDirectory() as folder:
+            named = {"IDENTIFY_LIBRARY": str(shared_library(Path(folder))), "PATH": "/nonexistent"}
+            with mock.patch.dict(os.environ, named):
+                result = command(NOISY)
         self.assertEqual((result.returncode, result.stderr), (0, ""))
 
     def test_named_and_none(self):

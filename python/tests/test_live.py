@@ -90,6 +90,13 @@ def flights():
     }
 
 
+@functools.cache
+def output_of(name):
+    """What the program writes of one of the flights."""
+    config, flight, _ = flights()[name]
+    return ran(built_live(), "fly", given=packed(config, flight))
+
+
 class Flights(unittest.TestCase):
     """A flight through the header's functions, the probe lying between guards."""
 
@@ -101,14 +108,14 @@ class Flights(unittest.TestCase):
         for name, (config, flight, ending) in flights().items():
             with self.subTest(name):
                 expected = probe.run_bytes(wire.pack_config(config), wire.pack_calls(*flight))
-                output = ran(self.live, "fly", given=packed(config, flight))
+                output = output_of(name)
                 self.assertEqual(output[: -STATUS.size], expected)
                 self.assertIs(Ending(output[0] >> 6), ending)
 
     def test_the_status_is_the_report_with_names(self):
-        for name, (config, flight, _) in flights().items():
+        for name in flights():
             with self.subTest(name):
-                output = ran(self.live, "fly", given=packed(config, flight))
+                output = output_of(name)
                 self.assertEqual(output[-STATUS.size:], status_of(output[:36]))
 
     def test_eight_threads_answer_as_one(self):
@@ -178,12 +185,9 @@ class Memory(MemoryTest):
         self.check(built_live_program(self, EXAMPLE, "-g"))
 
     def test_flights_and_garbage(self):
-        live = built_live()
-        config, flight, _ = flights()["noisy, a full window"]
-        self.check(live, "fly", given=packed(config, flight))
-        config, flight, _ = flights()["lost readings"]
-        self.check(live, "fly", given=packed(config, flight))
-        self.check(live, "garbage", "100")
+        flown = [flights()[name] for name in ("noisy, a full window", "lost readings")]
+        given = b"".join(struct.pack(">I", len(flight[0])) + packed(config, flight) for config, flight, _ in flown)
+        self.check(built_live(), "memory", "100", given=given)
 
 
 class Stack(unittest.TestCase):

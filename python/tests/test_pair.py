@@ -15,7 +15,8 @@ from programs import (
     readme_lines, stack, status_of, words_of,
 )
 from support import (
-    HEADER, M1_CONFIG, M1_PAIR_OUTPUT, ROOT, byte_library, command, identify, live_library, made_flight, pair_library,
+    HEADER, M1_CONFIG, M1_PAIR_OUTPUT, ROOT, byte_library, identify, live_library, made_flight, main, pair_library,
+    two_axis_library,
 )
 
 from identify import probe, wire
@@ -88,7 +89,7 @@ int main(void)
 
 
 def built_pair_program(test, source, *words, compiler="cc", standard="c11"):
-    """A program that is linked with the library of two axes alone."""
+    """A program that is linked with the library of a pair alone."""
     return built(test, [pair_library()], source, *words, compiler=compiler, standard=standard)
 
 
@@ -140,6 +141,13 @@ def flights():
     }
 
 
+@functools.cache
+def output_of(name):
+    """What the program writes of one of the flights."""
+    config, columns, _ = flights()[name]
+    return ran(built_pair(), "fly", given=packed(config, columns))
+
+
 class Flights(unittest.TestCase):
     """A flight through the header's functions, the pair lying between guards."""
 
@@ -151,14 +159,14 @@ class Flights(unittest.TestCase):
         for name, (config, columns, endings) in flights().items():
             with self.subTest(name):
                 expected = probe.run_two_axis_bytes(wire.pack_config(config), wire.pack_two_axis_calls(*columns))
-                output = ran(self.pair, "fly", given=packed(config, columns))
+                output = output_of(name)
                 self.assertEqual(output[: -2 * STATUS.size], expected)
                 self.assertEqual((Ending(output[0] >> 6), Ending(output[36] >> 6)), endings)
 
     def test_the_status_of_an_axis_is_its_report_with_names(self):
-        for name, (config, columns, _) in flights().items():
+        for name in flights():
             with self.subTest(name):
-                output = ran(self.pair, "fly", given=packed(config, columns))
+                output = output_of(name)
                 self.assertEqual(output[-2 * STATUS.size:], status_of(output[:36]) + status_of(output[36:72]))
 
     def test_eight_threads_answer_as_one(self):
@@ -234,10 +242,9 @@ class Memory(MemoryTest):
         self.check(built_pair_program(self, EXAMPLE, "-g"))
 
     def test_flights_and_garbage(self):
-        for name in ("full windows", "lost readings"):
-            config, columns, _ = flights()[name]
-            self.check(built_pair(), "fly", given=packed(config, columns))
-        self.check(built_pair(), "garbage", "60")
+        flown = [flights()[name] for name in ("full windows", "lost readings")]
+        given = b"".join(struct.pack(">I", len(columns[0])) + packed(config, columns) for config, columns, _ in flown)
+        self.check(built_pair(), "memory", "60", given=given)
 
 
 class Stack(unittest.TestCase):
@@ -245,7 +252,7 @@ class Stack(unittest.TestCase):
 
     @classmethod
     def setUpClass(cls):
-        cls.program = built_stack(cls, [pair_library()], "stack_pair.c")
+        cls.program = built_stack(cls, [pair_library(), two_axis_library()], "stack_pair.c")
         cls.given = packed(*full_noisy_flight())
         cls.limit = defined("IDENTIFY_STACK")
 
@@ -256,7 +263,8 @@ class Stack(unittest.TestCase):
         self.assertEqual(max(taken, key=taken.get), "step")
         self.assertLessEqual(taken["step"], self.limit)
         self.assertGreater(taken["step"], self.limit - 4096, "the header says a page more than the call takes")
-        said = int(re.search(r"It takes up to (99,\d+) bytes of stack", HEADER.read_text(encoding="utf8"))[1].replace(",", ""))
+        text = HEADER.read_text(encoding="utf8")
+        said = int(re.search(r"Runs a pair,.*?It takes up to ([\d,]+) bytes of stack", text, re.DOTALL)[1].replace(",", ""))
         self.assertLessEqual(run, said)
         self.assertGreater(run, said - 4096, "the header says a page more than the run takes")
 
@@ -269,6 +277,12 @@ class Stack(unittest.TestCase):
             self.skipTest(f"a step takes {taken} bytes, and no thread has less")
         with self.assertRaisesRegex(subprocess.CalledProcessError, "SIGSEGV"):
             stack(self.program, "exact", str(taken - 256), given=self.given)
+
+
+@functools.cache
+def strict_answer(log):
+    """What the command answers to a log with --strict. The example writes one log, whoever compiled it."""
+    return main("-", "--json", "--strict", given=log)
 
 
 class Example(unittest.TestCase):
@@ -289,8 +303,9 @@ class Example(unittest.TestCase):
                 self.assertEqual(screen[-8:], [f"roll: {roll[0]}", *roll[1:], f"pitch: {pitch[0]}", *pitch[1:]])
                 self.assertEqual([line.split()[0] for line in screen[:-8]], [f"{second}.0" for second in range(1, 8)])
                 self.assertEqual(screen, ran(program).decode().splitlines()[:-1])
-                self.assertFalse(identify.find_two_axis_warnings(flight))
-                found = json.loads(command(str(path), "--json", "--strict").stdout)
+                result = strict_answer(path.read_text())
+                found = json.loads(result.stdout)
+                self.assertEqual((result.returncode, [axis["warnings"] for axis in found["axes"]]), (0, [[], []]))
                 self.assertEqual((found["report_hex"].upper(), found["extension_asked_by"]), (last, ["axis 1", "axis 2"]))
 
 
@@ -313,13 +328,13 @@ class Sources(unittest.TestCase):
     def test_m1(self):
         for compiler, standard in STANDARDS:
             with self.subTest(standard):
-                program = built_pair_program(self, M1, compiler=compiler, standard=standard)
+                program = built(self, [two_axis_library()], M1, compiler=compiler, standard=standard)
                 self.assertEqual(ran(program).decode(), f"0 {M1_PAIR_OUTPUT.hex().upper()}")
 
     def test_it_links_with_the_other_libraries(self):
         for compiler, standard in STANDARDS:
             with self.subTest(standard):
-                archives = [byte_library(), live_library(), pair_library()]
+                archives = [byte_library(), two_axis_library(), live_library(), pair_library()]
                 program = built(self, archives, ALL_LIBRARIES, compiler=compiler, standard=standard)
                 self.assertEqual(ran(program).decode(), "1 0 1 1\n")
 

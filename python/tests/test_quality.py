@@ -4,7 +4,7 @@ import random
 import unittest
 from dataclasses import replace
 
-from flights import ALTERED, NOISY, count_trials, demo_columns, flown, identified
+from flights import ALTERED, NOISY, altered_flight, count_trials, demo_columns, demo_flight, flown_flight, identified
 from support import MOMENT_WEIGHTS, RATE_WEIGHTS, identify, made_flight
 
 from identify import quality
@@ -28,7 +28,7 @@ class Separates(unittest.TestCase):
     def test_the_demo_flights_are_good(self):
         for name, least in (("clean", 0.9999), ("noisy", 0.98)):
             with self.subTest(name=name):
-                found = identified(demo_columns(name)).quality
+                found = demo_flight(name).quality
                 self.assertTrue(found.is_good)
                 self.assertGreater(found.explained, least)
                 self.assertLess(abs(found.unexplained), 0.002)
@@ -36,7 +36,7 @@ class Separates(unittest.TestCase):
     def test_other_noise_of_the_same_airframe_is_good(self):
         for seed in range(1, 8):
             with self.subTest(seed=seed):
-                self.assertTrue(identified(flown(replace(NOISY, seed=seed))).quality.is_good)
+                self.assertTrue(flown_flight(replace(NOISY, seed=seed)).quality.is_good)
 
     def test_a_flight_that_lost_single_samples_is_good(self):
         draw = random.Random(3)
@@ -48,9 +48,9 @@ class Separates(unittest.TestCase):
     def test_each_altered_flight(self):
         """By the figure: too little is explained, or the delay is off, or nothing can be tried. A share does not change
         with a unit, nor does a full window make a fit wrong: these are told by a warning, and the percents by the abort."""
-        for name, make in ALTERED.items():
+        for name in ALTERED:
             with self.subTest(name=name):
-                flight = identified(make())
+                flight = altered_flight(name)
                 if name == "moment in percent":
                     self.assertIs(flight.report.ending, Ending.SATURATED)
                 elif name == "one dt of 3000 s":
@@ -62,7 +62,7 @@ class Separates(unittest.TestCase):
                 self.assertTrue(identify.find_warnings(flight))
 
     def test_how_each_altered_flight_shows(self):
-        found = {name: identified(ALTERED[name]()).quality for name in (
+        found = {name: altered_flight(name).quality for name in (
             "lost samples", "moments of noise", "one dt of 2 s", "a delay of 60 ms")}
         self.assertGreater(found["lost samples"].unexplained, 0.025)
         self.assertLess(found["moments of noise"].explained, 0.2)
@@ -82,7 +82,7 @@ class Separates(unittest.TestCase):
         for gusts, good in ((0.0, True), (0.1, True), (1.0, False), (2.0, False)):
             for seed in range(4):
                 with self.subTest(gusts=gusts, seed=seed):
-                    flight = identified(flown(replace(NOISY, gusts=gusts, seed=seed)))
+                    flight = flown_flight(replace(NOISY, gusts=gusts, seed=seed))
                     self.assertEqual(flight.quality.is_good, good)
                     self.assertEqual(abs(flight.report.model.delay_ticks - 3.5) <= 1.5, good)
 
@@ -127,12 +127,12 @@ class Figures(unittest.TestCase):
                 self.assertEqual(identify.Quality(explained, 0.0, 0.0, noise, 0.0, 100).explains_little, little)
 
     def test_the_noise_is_the_gyro_s(self):
-        readings = quality.on_model_clock(identified(demo_columns("noisy")).samples, 0.004)
+        readings = quality.on_model_clock(demo_flight("noisy").samples, 0.004)
         self.assertAlmostEqual(math.sqrt(quality.noise_variance(readings)), NOISY.noise, delta=0.002)
         self.assertEqual(quality.noise_variance(readings[:2]), 0.0)
 
     def test_a_trim_is_drift_and_costs_nothing(self):
-        found = identified(demo_columns("clean")).quality
+        found = demo_flight("clean").quality
         # The clean flight has a constant moment of 0.01 from outside, and its push is 40.
         self.assertAlmostEqual(found.drift_radps, 40 * 0.01 * quality.HORIZON_S, delta=0.001)
 
@@ -160,7 +160,7 @@ class Clock(unittest.TestCase):
     """The window on the model's clock."""
 
     def test_even_ticks_are_the_samples(self):
-        samples = identified(demo_columns("noisy")).samples
+        samples = demo_flight("noisy").samples
         readings = quality.on_model_clock(samples, 0.00400007)
         self.assertEqual([(r.rate, r.moment, r.good) for r in readings], [(s.rate, s.moment, not s.held) for s in samples])
 
@@ -190,7 +190,7 @@ class Simulated(unittest.TestCase):
             self.assertAlmostEqual(found, expected, places=12)
 
     def test_clean_flight_is_followed(self):
-        flight = identified(demo_columns("clean"))
+        flight = demo_flight("clean")
         stretches = list(identify.simulated_stretches(flight.report.model, flight.samples, flight.quality))
         self.assertEqual(len(stretches), 29)
         by_time = {round(sample.time_s, 3): sample.rate for sample in flight.samples}
@@ -200,7 +200,7 @@ class Simulated(unittest.TestCase):
                 self.assertAlmostEqual(rate, by_time[round(time_s, 3)], delta=0.001)
 
     def test_no_stretch_begins_in_a_gap(self):
-        flight = identified(ALTERED["lost samples"]())
+        flight = altered_flight("lost samples")
         stretches = identify.simulated_stretches(flight.report.model, flight.samples, flight.quality)
         self.assertTrue(all(times[-1] < 1.3 or times[0] > 4.7 for times, _ in stretches))
 

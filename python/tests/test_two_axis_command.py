@@ -1,6 +1,6 @@
 """The command ./identify over a log of two axes: what it prints, its exit status, its messages; and --columns."""
+import functools
 import importlib.util
-import io
 import json
 import os
 import random
@@ -14,7 +14,7 @@ from flights import (
     ALTERED, ROLL_PITCH, ROLL_PITCH_COLUMNS, TWO_AXES, demo_columns, flown, lengthened, make_flights, odd_column, odd_columns,
     paired, roll_pitch,
 )
-from support import DEMO, ROOT, command, identify, log_text, made_flight
+from support import DEMO, ROOT, command, identify, log_text, made_flight, main, main_once, render
 
 from identify import picture, two_axis_words
 from identify.records import Config, Ending
@@ -29,9 +29,9 @@ def two_axis_text(columns):
     return log_text(*columns, names=TWO_AXES)
 
 
-def demo(*words):
+def demo(*words, run=main_once):
     """The command over the demo's flight."""
-    return command(str(ROLL_PITCH), "--columns", COLUMNS, *words)
+    return run(str(ROLL_PITCH), "--columns", COLUMNS, *words)
 
 
 def blocks(text):
@@ -60,13 +60,13 @@ class Words(unittest.TestCase):
 
     def shown(self, columns, *words):
         """The blocks of a report."""
-        result = command("-", *words, given=two_axis_text(columns))
+        result = main_once("-", *words, given=two_axis_text(columns))
         self.assertEqual((result.returncode, result.stderr), (0, ""))
         return blocks(result.stdout)
 
     def test_the_readmes_report(self):
         text = (ROOT / "README.md").read_text(encoding="utf8")
-        result = demo()
+        result = demo(run=command)
         self.assertEqual((result.returncode, result.stderr), (0, ""))
         self.assertIn(f"```\n{result.stdout.replace(f'{DEMO}/', 'demo/')}```\n", text)
         self.assertIn(f"./identify demo/roll_pitch.csv --columns {COLUMNS}\n", text)
@@ -74,7 +74,7 @@ class Words(unittest.TestCase):
 
     def test_each_axis_has_the_lines_of_one(self):
         shared, roll, pitch = blocks(demo().stdout)
-        alone = blocks(command(str(DEMO / "noisy.csv")).stdout)[0]
+        alone = blocks(main_once(str(DEMO / "noisy.csv")).stdout)[0]
         self.assertEqual(names(shared), ["calls", "counts"])
         self.assertEqual(names(roll), names(alone)[:-1])
         self.assertEqual(names(pitch), names(alone)[:-1])
@@ -162,7 +162,7 @@ class Json(unittest.TestCase):
         self.assertTrue(all(axis["quality"]["good"] for axis in found["axes"]))
 
     def test_an_axis_has_the_fields_of_one_but_for_what_both_share(self):
-        alone = json.loads(command(str(DEMO / "noisy.csv"), "--json").stdout)
+        alone = json.loads(main_once(str(DEMO / "noisy.csv"), "--json").stdout)
         found = json.loads(demo("--json").stdout)
         axis = found["axes"][0]
         self.assertEqual(set(axis) - set(alone), {"axis"})
@@ -170,7 +170,7 @@ class Json(unittest.TestCase):
 
     def test_running_and_turned_back(self):
         dt, *readings = (column[:300] for column in roll_pitch())
-        found = json.loads(command("-", "--json", given=two_axis_text(([0.0, *dt[1:]], *readings))).stdout)
+        found = json.loads(main("-", "--json", given=two_axis_text(([0.0, *dt[1:]], *readings))).stdout)
         self.assertEqual((found["running"], found["extended"], found["extension_asked_by"]), (True, False, []))
         self.assertIn("the log ends after", found["reason"])
         self.assertEqual([axis["reason"] for axis in found["axes"]], [None, None])
@@ -181,7 +181,7 @@ class Json(unittest.TestCase):
 
     def test_warnings_by_axis(self):
         columns = paired(ALTERED["a delay of 60 ms"](), demo_columns("noisy"))
-        found = json.loads(command("-", "--json", given=two_axis_text(columns)).stdout)
+        found = json.loads(main("-", "--json", given=two_axis_text(columns)).stdout)
         codes = [[warned["code"] for warned in axis["warnings"]] for axis in found["axes"]]
         self.assertEqual(codes, [["delay-last", "delay-off"], []])
 
@@ -189,18 +189,19 @@ class Json(unittest.TestCase):
 class Strict(unittest.TestCase):
     """--strict is 1 unless both axes have a model without a warning."""
 
-    def check(self, columns, status):
-        plain, strict = (command("-", *words, given=two_axis_text(columns)) for words in ((), ("--strict",)))
+    def check(self, columns, status, run=main):
+        given = two_axis_text(columns)
+        plain, strict = main_once("-", given=given), run("-", "--strict", given=given)
         self.assertEqual((plain.returncode, strict.returncode), (0, status))
         self.assertEqual(plain.stdout, strict.stdout)
 
     def test_both_good(self):
-        self.assertEqual(demo("--strict").returncode, 0)
+        self.assertEqual(demo("--strict", run=command).returncode, 0)
         self.check(both_noisy(), 0)
 
     def test_one_without_a_model(self):
         saturated = lengthened(demo_columns("saturated"), 2100)
-        self.check(paired(demo_columns("noisy"), saturated), 1)
+        self.check(paired(demo_columns("noisy"), saturated), 1, run=command)
         self.check(paired(saturated, demo_columns("noisy")), 1)
 
     def test_one_with_a_warning(self):
@@ -220,37 +221,38 @@ class Columns(unittest.TestCase):
 
     def test_one_axis_by_other_names(self):
         text = (DEMO / "noisy.csv").read_text().replace("dt,rate,moment", "Step, Gyro X ,cmd", 1)
-        result = command("-", "--columns", "dt=step, rate=gyro x ,moment=CMD", given=text)
+        result = main("-", "--columns", "dt=step, rate=gyro x ,moment=CMD", given=text)
         self.assertEqual((result.returncode, result.stderr), (0, ""))
-        plain = command("-", given=(DEMO / "noisy.csv").read_text())
+        plain = main("-", given=(DEMO / "noisy.csv").read_text())
         self.assertEqual(result.stdout, plain.stdout)
 
     def test_one_axis_of_a_log_of_two(self):
-        result = command(str(ROLL_PITCH), "--columns", "rate=roll_rate,moment=roll_moment")
+        result = main(str(ROLL_PITCH), "--columns", "rate=roll_rate,moment=roll_moment")
         self.assertIn("roll_pitch.csv: done, by the fit on the recorded rates (a quiet window)\n", result.stdout)
         self.assertIn("ticks 1500", result.stdout)
 
     def test_the_first_axis_called_as_one_is(self):
         words = "dt=dt,rate=roll_rate,moment=roll_moment,rate2=pitch_rate,moment2=pitch_moment"
-        self.assertEqual(command(str(ROLL_PITCH), "--columns", words).stdout, demo().stdout)
+        self.assertEqual(main(str(ROLL_PITCH), "--columns", words).stdout, demo().stdout)
 
     def test_some_columns_with_other_names(self):
-        text = two_axis_text(roll_pitch()).replace("rate2", "pitch", 1).replace("dt", "step", 1)
-        result = command("-", "--columns", "dt=step,rate2=pitch", given=text)
+        columns = tuple(column[:300] for column in roll_pitch())
+        text = two_axis_text(columns).replace("rate2", "pitch", 1).replace("dt", "step", 1)
+        result = main("-", "--columns", "dt=step,rate2=pitch", given=text)
         self.assertEqual([block[0].split(":")[0] for block in blocks(result.stdout)], ["standard input", "axis 1", "pitch"])
-        text = two_axis_text(roll_pitch()).replace("dt", "step", 1)
-        result = command("-", "--columns", "dt=step", given=text)
+        text = two_axis_text(columns).replace("dt", "step", 1)
+        result = main("-", "--columns", "dt=step", given=text)
         self.assertEqual([block[0].split(":")[0] for block in blocks(result.stdout)], ["standard input", "axis 1", "axis 2"])
 
     def test_a_log_with_a_rate_is_one_of_one_axis(self):
         columns = (*demo_columns("noisy"), *(column[:2100] for column in roll_pitch()[1:]))
         text = log_text(*columns, names=("dt", "rate", "moment", *TWO_AXES[1:]))
-        self.assertIn("3.5 ticks", command("-", given=text).stdout)
-        both = command("-", "--columns", "rate2=rate2", given=text)
+        self.assertIn("3.5 ticks", main("-", given=text).stdout)
+        both = main("-", "--columns", "rate2=rate2", given=text)
         self.assertEqual(len(blocks(both.stdout)), 3)
 
     def complains(self, *words, given="", expected):
-        result = command(*words, given=given)
+        result = main(*words, given=given)
         self.assertEqual((result.returncode, result.stdout, result.stderr.count("\n")), (2, "", 1))
         self.assertIn(expected, result.stderr)
 
@@ -305,7 +307,7 @@ class Library(unittest.TestCase):
             named = Path(folder) / "libidentify.so"
             subprocess.run(("cc", "-shared", "-x", "c", "-", "-o", str(named)), input=ONE_AXIS_ALONE, text=True, check=True)
             with mock.patch.dict(os.environ, {"IDENTIFY_LIBRARY": str(named)}):
-                result = demo()
+                result = demo(run=command)
         self.assertEqual((result.returncode, result.stdout, result.stderr.count("\n")), (3, "", 1))
         self.assertIn("identify: the library has no function identify_two_axis_run, which two axes need; ", result.stderr)
 
@@ -340,23 +342,16 @@ class OddLogs(unittest.TestCase):
 
     @unittest.skipUnless(HAS_MATPLOTLIB, "matplotlib is not installed (Debian package python3-matplotlib)")
     def test_pictures(self):
-        import warnings
-
-        from matplotlib.figure import Figure
-
         for flight, found in self.flights(8):
-            with warnings.catch_warnings():
-                warnings.simplefilter("ignore")
-                figure = Figure(layout="constrained")
-                picture.draw_axes(figure, flight, found)
-                figure.savefig(io.BytesIO(), format="png")
+            render(lambda figure, flight=flight, found=found: picture.draw_axes(figure, flight, found))
 
 
 @unittest.skipUnless(HAS_MATPLOTLIB, "matplotlib is not installed (Debian package python3-matplotlib)")
 class Pictures(unittest.TestCase):
     """What is drawn of two axes."""
 
-    def drawn(self, columns):
+    @staticmethod
+    def drawn(columns):
         """The figure of a flight."""
         from matplotlib.figure import Figure
 
@@ -368,16 +363,22 @@ class Pictures(unittest.TestCase):
         picture.draw_axes(figure, flight, identify.find_two_axis_warnings(flight))
         return figure
 
+    @classmethod
+    @functools.cache
+    def demo_drawn(cls):
+        """The figure of the demo's flight, drawn once."""
+        return cls.drawn(roll_pitch())
+
     def test_each_kind(self):
         with tempfile.TemporaryDirectory() as folder:
             for suffix, start in {".png": b"\x89PNG", ".svg": b"<?xml"}.items():
                 path = Path(folder) / f"picture{suffix}"
-                result = demo("--plot", str(path))
+                result = demo("--plot", str(path), run=command)
                 self.assertEqual((result.returncode, result.stderr), (0, ""))
                 self.assertTrue(path.read_bytes().startswith(start))
 
     def test_an_axis_each_over_one_time(self):
-        figure = self.drawn(roll_pitch())
+        figure = self.demo_drawn()
         self.assertEqual(len(figure.axes), 6)
         self.assertEqual([panel.get_ylabel() for panel in figure.axes],
                          2 * ["rate, rad/s", "moment, 1 is the limit", "offset, rad/s"])
@@ -389,7 +390,7 @@ class Pictures(unittest.TestCase):
         self.assertNotEqual(list(figure.axes[2].get_lines()[0].get_ydata()), list(figure.axes[5].get_lines()[0].get_ydata()))
 
     def test_the_heading(self):
-        figure = self.drawn(roll_pitch())
+        figure = self.demo_drawn()
         self.assertEqual(figure._suptitle.get_text(),
                          "$a$.csv: both axes done, extended from 6 s to 8 s for pitch, whose window was noisy")
         self.assertFalse(figure._suptitle.get_parse_math())

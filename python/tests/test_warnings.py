@@ -4,8 +4,8 @@ import math
 import unittest
 from dataclasses import replace
 
-from flights import ALTERED, NOISY, codes, demo_columns, flown, identified, scaled
-from support import DEMO, command, gainless_flight, identify, log_text, made_flight, wild_log
+from flights import ALTERED, NOISY, altered_flight, codes, demo_columns, demo_flight, flown_flight, identified, scaled
+from support import DEMO, command, gainless_flight, identify, log_text, made_flight, main, main_once, wild_log
 
 from identify import checks
 from identify.records import Config, Ending
@@ -32,12 +32,12 @@ class Good(unittest.TestCase):
     def test_the_demo_flights_have_no_warning(self):
         for name in ("clean", "noisy", "saturated"):
             with self.subTest(name=name):
-                self.assertEqual(codes(identified(demo_columns(name))), [])
+                self.assertEqual(codes(demo_flight(name)), [])
 
     def test_other_noise_of_the_same_airframe_has_none(self):
         for seed in range(1, 8):
             with self.subTest(seed=seed):
-                self.assertEqual(codes(identified(flown(replace(NOISY, seed=seed)))), [])
+                self.assertEqual(codes(flown_flight(replace(NOISY, seed=seed))), [])
 
     def test_clean_delays_have_none_but_at_the_ends(self):
         for delay in range(1, 11):
@@ -60,7 +60,7 @@ class Altered(unittest.TestCase):
             "moment in percent": ["moment-units"],
             "rate in deg/s": ["rate-units"],
         }
-        self.assertEqual({name: codes(identified(make())) for name, make in ALTERED.items()}, expected)
+        self.assertEqual({name: codes(altered_flight(name)) for name in ALTERED}, expected)
 
 
 class Units(unittest.TestCase):
@@ -75,7 +75,7 @@ class Units(unittest.TestCase):
 
     def test_rate_in_degrees(self):
         self.assertEqual(
-            text_of("rate-units", identified(ALTERED["rate in deg/s"]())),
+            text_of("rate-units", altered_flight("rate in deg/s")),
             "the rate swings 50 times as far as the offset: it looks like deg/s. Multiply it by 0.0174533.",
         )
 
@@ -83,14 +83,14 @@ class Units(unittest.TestCase):
         self.assertNotIn("rate-units", codes(noisy_with(rate={800: 900.0})))
 
     def test_a_loop_that_rings_at_the_limit_is_no_unit(self):
-        ringing = identified(flown(replace(NOISY, p=0.9, delay_s=0.12, lag_s=0.02)))
+        ringing = flown_flight(replace(NOISY, p=0.9, delay_s=0.12, lag_s=0.02))
         self.assertIs(ringing.report.ending, Ending.SATURATED)
         times = checks.swing([sample.rate for sample in ringing.samples]) / checks.swing([s.offset for s in ringing.samples])
         self.assertGreater(times, checks.MOST_SWING)
         self.assertEqual(codes(ringing), [])
 
     def test_moment_in_percent(self):
-        flight = identified(ALTERED["moment in percent"]())
+        flight = altered_flight("moment in percent")
         self.assertEqual(
             text_of("moment-units", flight),
             "1003 of 1500 moments are beyond the limit of 1, the largest 17.5: they look like percent. Divide them by 100.",
@@ -126,7 +126,7 @@ class Log(unittest.TestCase):
             "2 of 2000 dt are more than a quarter off the usual 0.004 s, the worst 0.006 s on line 702: the fits take all "
             "ticks as equally long. Log every tick, with its true dt.",
         )
-        self.assertIn("1 of 1501 dt is more", text_of("uneven-dt", identified(ALTERED["one dt of 2 s"]())))
+        self.assertIn("1 of 1501 dt is more", text_of("uneven-dt", altered_flight("one dt of 2 s")))
 
     def test_a_first_dt_that_ends_the_probe(self):
         self.assertIn("1 of 1 dt is more than a quarter off the usual 0.004 s, the worst 3000 s on line 2",
@@ -167,7 +167,7 @@ class Log(unittest.TestCase):
         self.assertIn("for 0.2 s on end (lines 2 to 51) no sample is whole", text_of("gap", flight))
 
     def test_a_full_window(self):
-        at_400, at_300 = identified(ALTERED["400 Hz"]()), identified(flown(replace(NOISY, tick_s=1 / 300, dropouts=())))
+        at_400, at_300 = altered_flight("400 Hz"), flown_flight(replace(NOISY, tick_s=1 / 300, dropouts=()))
         self.assertEqual(
             text_of("window-full", at_400),
             "the window was full at 5.12 s, before the extension began at 6 s: what came later is in no fit. Fly at 255 "
@@ -187,15 +187,15 @@ class Models(unittest.TestCase):
     def test_the_ends_of_the_search(self):
         self.assertIn("1 tick is the shortest delay", text_of("delay-first", identified(made_flight(1))))
         self.assertIn("10 ticks is the longest delay", text_of("delay-last", identified(made_flight(10))))
-        self.assertIn("10.5 ticks is the longest delay", text_of("delay-last", identified(ALTERED["a delay of 60 ms"]())))
+        self.assertIn("10.5 ticks is the longest delay", text_of("delay-last", altered_flight("a delay of 60 ms")))
 
     def test_ten_ticks_are_not_the_last_of_the_integrated_fit(self):
-        flight = identified(flown(replace(NOISY, delay_s=0.034)))
+        flight = flown_flight(replace(NOISY, delay_s=0.034))
         self.assertEqual((flight.report.model.delay_ticks, flight.report.model.integrated), (10.0, True))
         self.assertNotIn("delay-last", codes(flight))
 
     def test_no_effect(self):
-        below = identified(ALTERED["moments of noise"]())
+        below = altered_flight("moments of noise")
         self.assertIn("the moment weights sum to -0.0446, not above 0", text_of("no-effect", below))
         config, *columns = gainless_flight(5)
         self.assertIn("sum to 0, not above 0", text_of("no-effect", identified(tuple(columns), config)))
@@ -208,25 +208,25 @@ class Models(unittest.TestCase):
         self.assertIn("the fit sees no lag", text_of("no-lag", identified(made_flight(3, pole=-0.2))))
 
     def test_unchecked(self):
-        found = text_of("unchecked", identified(ALTERED["one dt of 3000 s"]()))
+        found = text_of("unchecked", altered_flight("one dt of 3000 s"))
         self.assertIn("no stretch of 0.2 s has enough good samples", found)
 
     def test_explains_little(self):
-        found = text_of("explains-little", identified(ALTERED["lost samples"]()))
+        found = text_of("explains-little", altered_flight("lost samples"))
         self.assertIn("the model explains 96.0% of the rate's change over 0.2 s, and the gyro's noise 1.0%: too much is "
                       "left", found)
 
     def test_delay_off(self):
-        found = text_of("delay-off", identified(ALTERED["a delay of 60 ms"]()))
+        found = text_of("delay-off", altered_flight("a delay of 60 ms"))
         self.assertIn("the model's response comes too early: two ticks later it explains 98.3% of the rate's change, hardly "
                       "less than 98.8%.", found)
-        found = text_of("delay-off", identified(ALTERED["one dt of 2 s"]()))
+        found = text_of("delay-off", altered_flight("one dt of 2 s"))
         self.assertIn("the model's response comes too late: two ticks earlier it explains 87.4% of the rate's change, more "
                       "than 86.6%.", found)
 
     def test_a_quiet_window_with_some_noise(self):
         """The fit on the recorded rates takes gyro noise of 0.01 rad/s for a delay of 6 ticks; the flown delay is 9 ms."""
-        flight = identified(flown(replace(NOISY, noise=0.01)))
+        flight = flown_flight(replace(NOISY, noise=0.01))
         self.assertEqual((flight.report.model.delay_ticks, flight.report.model.integrated), (6.0, False))
         self.assertEqual(codes(flight), ["no-lag", "explains-little", "delay-off"])
 
@@ -235,28 +235,28 @@ class Command(unittest.TestCase):
     """Warnings as the command gives them."""
 
     def test_one_line_each_before_the_numbers(self):
-        result = command("-", given=log_text(*ALTERED["a delay of 60 ms"]()))
+        result = main("-", given=log_text(*ALTERED["a delay of 60 ms"]()))
         self.assertEqual((result.returncode, result.stderr), (0, ""))
         names = [line.split()[0] for line in result.stdout.splitlines()[1:]]
         self.assertEqual(names[:4], ["warning", "warning", "delay", "lag"])
 
     def test_strict(self):
         lines = (DEMO / "noisy.csv").read_text().splitlines(keepends=True)
-        for given, status in (
-            ("".join(lines), 0),
-            (log_text(*ALTERED["rate in deg/s"]()), 1),
-            ((DEMO / "saturated.csv").read_text(), 1),
-            ("dt,rate,moment\n" + "0.1,0,0\n" * 80, 1),
-            ("".join(lines[:300]), 1),
+        for given, status, run in (
+            ("".join(lines), 0, command),
+            (log_text(*ALTERED["rate in deg/s"]()), 1, command),
+            ((DEMO / "saturated.csv").read_text(), 1, main),
+            ("dt,rate,moment\n" + "0.1,0,0\n" * 80, 1, main),
+            ("".join(lines[:300]), 1, main),
         ):
             with self.subTest(status=status):
-                plain, strict = command("-", given=given), command("-", "--strict", given=given)
+                plain, strict = main("-", given=given), run("-", "--strict", given=given)
                 self.assertEqual((plain.returncode, plain.stderr), (0, ""))
                 self.assertEqual((strict.returncode, strict.stderr), (status, ""))
                 self.assertEqual(plain.stdout, strict.stdout)
 
     def test_json(self):
-        found = json.loads(command("-", "--json", given=log_text(*ALTERED["lost samples"]())).stdout)
+        found = json.loads(main("-", "--json", given=log_text(*ALTERED["lost samples"]())).stdout)
         self.assertEqual([warned["code"] for warned in found["warnings"]], ["many-held", "gap", "explains-little"])
         self.assertTrue(all(warned["text"].endswith(".") for warned in found["warnings"]))
         quality = found["quality"]
@@ -267,12 +267,12 @@ class Command(unittest.TestCase):
         self.assertGreater(quality["explained"], max(quality["earlier"], quality["later"]))
 
     def test_json_of_a_good_and_of_no_model(self):
-        good, none = (json.loads(command(str(DEMO / f"{name}.csv"), "--json").stdout) for name in ("noisy", "saturated"))
+        good, none = (json.loads(main_once(str(DEMO / f"{name}.csv"), "--json").stdout) for name in ("noisy", "saturated"))
         self.assertEqual((good["warnings"], good["window_full_s"], good["quality"]["good"]), ([], None, True))
         self.assertEqual((none["warnings"], none["quality"]), ([], None))
 
     def test_a_wild_window_gives_up_and_says_why(self):
-        found = json.loads(command("-", "--json", given=wild_log("noisy.csv", 803, ["3e38", "-3e38"])).stdout)
+        found = json.loads(main("-", "--json", given=wild_log("noisy.csv", 803, ["3e38", "-3e38"])).stdout)
         self.assertEqual([warned["code"] for warned in found["warnings"]], ["wild-rate"])
 
 

@@ -5,7 +5,7 @@ use mathlib.Core.Bool.{true, _&&_, and-eq-true-iff}
 use mathlib.Core.List.{List}
 use native.Mathlib.Numerals.{add-one}
 use native.Mathlib.Omega.{arith}
-use borrow.Author.Tests.{eqb-true, leb-true}
+use borrow.Author.Tests.{leb-true}
 use lib.Dec.{eqb, lit<}
 use lib.ListN.{length, getD, take, drop, length-append}
 use lib.Seq.{getD-take, getD-drop}

@@ -1,6 +1,6 @@
-// Replays whole byte runs and prints how many of each file agree in result and in every byte of the output.
-// runs.bin holds the reference's answers, written by the command in host/README.md with seed 1; examples.bin the worked examples of
-// docs/01-scope.md, written by host/make_examples.py. host/README.md has the layout of both, "runs".
+// Replays whole byte runs, of one axis and of two, and prints how many of each file agree in result and in every byte of the output.
+// runs.bin and two_axis_runs.bin hold the reference's answers, written by the command in host/README.md with seed 1; examples.bin the
+// worked examples of docs/01-scope.md, written by host/make_examples.py. host/README.md has the layout of all three, "runs".
 use vectors::Records;
 use vectors::part;
 use wire::read_word;
@@ -30,8 +30,17 @@ fn holds(output: &[u8], expected: &[u8]) -> bool {
     ok
 }
 
+// A run of one axis or of two.
+fn run(two_axes: bool, config: &[u8], calls: &[u8], output: &mut [u8]) -> u32 {
+    if two_axes {
+        return two_axis_run::identify_two_axis_run(config, calls, output);
+    }
+    byte_run::byte_run(config, calls, output)
+}
+
 // Whether a run answers the result and writes the expected bytes and no others.
 fn run_agrees(
+    two_axes: bool,
     config: &[u8],
     calls: &[u8],
     result: u32,
@@ -43,18 +52,19 @@ fn run_agrees(
     if output.len() < n {
         return false;
     }
-    let answered = byte_run::byte_run(config, calls, &mut output[..n]);
+    let answered = run(two_axes, config, calls, &mut output[..n]);
     (answered == result) & holds(output, expected)
 }
 
 // w lengths of the configuration, the calls and the output; the configuration, the calls; w result; the output.
-fn agrees(s: &[u8]) -> bool {
+fn agrees(two_axes: bool, s: &[u8]) -> bool {
     let mut output = io::large_buffer();
     let config = read_word(s, 0) as usize;
     let calls = read_word(s, 4) as usize;
     let expected = read_word(s, 8) as usize;
     let end = 12 + config + calls;
     run_agrees(
+        two_axes,
         part(s, 12, config),
         part(s, 12 + config, calls),
         read_word(s, end),
@@ -67,23 +77,24 @@ fn record_size(s: &[u8]) -> usize {
     16 + (read_word(s, 0) as usize) + (read_word(s, 4) as usize) + (read_word(s, 8) as usize)
 }
 
-fn replayed(s: &[u8], file: Records) -> Records {
+fn replayed(two_axes: bool, s: &[u8], file: Records) -> Records {
     let mut records = file;
     while 0 < records.left {
         let record = vectors::rest(s, records.left);
-        records = records.with(record_size(record), agrees(record));
+        records = records.with(record_size(record), agrees(two_axes, record));
     }
     records
 }
 
-fn replay(name: &[u8], path: &[u8]) {
+fn replay(two_axes: bool, name: &[u8], path: &[u8]) {
     let mut buffer = vectors::buffer();
     let file = Records::read(path, &mut buffer);
     let n = file.left;
-    replayed(&buffer[..n], file).print(name, path);
+    replayed(two_axes, &buffer[..n], file).print(name, path);
 }
 
 fn main() {
-    replay(b"byte runs", b"runs.bin");
-    replay(b"examples", b"examples.bin");
+    replay(false, b"byte runs", b"runs.bin");
+    replay(false, b"examples", b"examples.bin");
+    replay(true, b"two-axis runs", b"two_axis_runs.bin");
 }

@@ -8,18 +8,17 @@ use Rattle.window.specs.declared.Window.{Window}
 use Rattle.window.specs.Samples.{Samples}
 use Rattle.window.specs.Arrays.{samplesIn}
 use Rattle.recorded.specs.declared.Classified.{Classified}
-use Rattle.recorded.specs.Classify.{classify}
 use Rattle.account.specs.declared.Noisy.{Noisy}
 use Rattle.account.specs.declared.Noisy.the-variants.{Absent, Present}
 use Rattle.account.specs.Probe.{standsWith, stands, takes, extend, close}
-use Rattle.closing.specs.Ending.{standsBy, endingOf, endedBy, dueBy, closedDue, closedBy}
+use Rattle.closing.specs.Ending.{standsBy, aheadOf, endingOf, endedBy, classOf, dueBy, closedDue, closedBy}
 
 module _ (now end : Float) (unused : Noisy) (s : SquareSweep) (w : Window) (rates moments offsets : List Float) (marks : List Bool) where
   abbrev samples : Samples
   samples = samplesIn w rates moments offsets marks
 
   abbrev class : Classified
-  class = classify (samples .rates) (samples .moments) (samples .marks) (samples .duration)
+  class = classOf samples
 
   stands-by : (r : Bool) → standsBy r now class w rates moments ≡ standsWith r now samples
   unfolding standsBy stands samplesIn
@@ -38,3 +37,12 @@ module _ (now end : Float) (unused : Noisy) (s : SquareSweep) (w : Window) (rate
 
   pub halves : (asked : Bool) → closedDue (dueBy (lt now end) samples) asked now w end unused s rates moments ≡ closedBy asked now end unused s samples
   halves asked = closes asked (lt now end)
+
+  -- and by the test of the end time
+  pub ahead : (asked : Bool) → lt now end ≡ true → aheadOf now end unused s ≡ closedBy asked now end unused s samples
+  unfolding close stands
+  ahead asked below = rw below
+
+  pub over : (asked : Bool) → lt now end ≡ false → endedBy (takes asked class unused) class now w end unused s rates moments ≡ closedBy asked now end unused s samples
+  unfolding close
+  over asked reached = rw reached (ends (takes asked class unused))

@@ -38,6 +38,10 @@ endingOf c = record {
 abbrev pub ending : Float → Noisy → SquareSweep → Stand → Ending
 ending end unused s z = record { «duration_s» = end; noisy = unused; sweep = s; status = z .status; «gain_fits» = z .«gain_fits» }
 
+-- with the end time still ahead
+abbrev pub aheadOf : (now end : Float) → Noisy → SquareSweep → Ending
+aheadOf now end unused s = ending end unused s (record { status = Running now; «gain_fits» = 0 })
+
 -- how the tick at `now` ends for a probe with this end time, unused extension, sweep and samples; first whether the other axis asks
 abbrev pub closedBy : Bool → (now end : Float) → Noisy → SquareSweep → Samples → Ending
 closedBy asked now end unused sweep w = endingOf (close now w asked (lt now end) end unused sweep)
@@ -51,11 +55,15 @@ unfoldable pub standsBy : Bool → Float → Classified → Window → (rates mo
 standsBy true now class w rates moments = record { status = Running now; fits = 0 }
 standsBy false now class w rates moments = finishedIn class w rates moments
 
+-- the class of the samples
+abbrev pub classOf : Samples → Classified
+classOf w = classify (w .rates) (w .moments) (w .marks) (w .duration)
+
 -- ---- the same in two halves: what the tick finds, and how it then ends
 -- "Elapsed below duration_s: go on. Otherwise classify."
 unfoldable pub dueBy : Bool → Samples → Due
 dueBy true w = Ahead
-dueBy false w = Class (classify (w .rates) (w .moments) (w .marks) (w .duration))
+dueBy false w = Class (classOf w)
 
 -- "if either window is integrated when duration_s is reached"
 unfoldable pub asksOf : Due → Bool
@@ -69,5 +77,5 @@ endedBy (Present x) class now w end unused s rates moments =
     ending (x .«duration_s») Absent (withAmplitude s (x .amplitude)) (standOf (standsBy (lt now (x .«duration_s»)) now class w rates moments))
 
 unfoldable pub closedDue : Due → Bool → Float → Window → Float → Noisy → SquareSweep → (rates moments : List Float) → Ending
-closedDue Ahead asked now w end unused s rates moments = ending end unused s (record { status = Running now; «gain_fits» = 0 })
+closedDue Ahead asked now w end unused s rates moments = aheadOf now end unused s
 closedDue (Class class) asked now w end unused s rates moments = endedBy (takes asked class unused) class now w end unused s rates moments

@@ -9,7 +9,7 @@ ghost use Rattle.recorded.specs.declared.Classified.the-variants.{Integrated};
 ghost use Rattle.account.specs.declared.IdentifyStatus.the-variants.{Running};
 ghost use Rattle.account.specs.Probe.{takes, statusOf};
 ghost use Rattle.account.specs.Account.{isIntegrated};
-ghost use Rattle.closing.specs.Ending.{standOf, finishedIn, standsBy, dueBy, asksOf, endedBy, closedDue, closedBy};
+ghost use Rattle.closing.specs.Ending.{ending, aheadOf, standOf, finishedIn, standsBy, classOf, dueBy, asksOf, endedBy, closedDue, closedBy};
 use account::IdentifyStatus;
 use account::Noisy;
 use integrated::Fitted;
@@ -132,7 +132,7 @@ fn stand_at(
 }
 
 fn ended_at(duration_s: f32, noisy: Noisy, sweep: SquareSweep, stand: Stand) -> Ending
-    ensures { λ r. ⌜ r ≡ record { «duration_s» = «duration_s»; noisy = noisy; sweep = sweep; status = stand .status; «gain_fits» = stand .«gain_fits» } ⌝ }
+    ensures { λ r. ⌜ r ≡ ending «duration_s» noisy sweep stand ⌝ }
 {
     let status = stand.status;
     Ending {
@@ -142,6 +142,25 @@ fn ended_at(duration_s: f32, noisy: Noisy, sweep: SquareSweep, stand: Stand) -> 
         status,
         gain_fits: stand.gain_fits,
     }
+}
+
+// The end of a tick with the end time still ahead.
+pub fn goes_on(now_s: f32, end_s: f32, noisy: Noisy, sweep: SquareSweep) -> Ending
+    ensures { λ r. ⌜ r ≡ aheadOf «now_s» «end_s» noisy sweep ⌝ }
+{
+    ended_at(end_s, noisy, sweep, running(now_s))
+}
+
+// The class of a window.
+fn class_of(
+    window: Window,
+    rates: &[f32; 2048],
+    moments: &[f32; 2048],
+    held: &[bool; 2048],
+) -> Classified
+    ensures { λ r. ⌜ ((offsets : List Float) → r ≡ classOf (samplesIn window (now (rates .entry)) (now (moments .entry)) offsets (now (held .entry)))) ⌝ }
+{
+    recorded::classify(rates, moments, held, window.stored(), window.duration_s)
 }
 
 // What the tick at now_s finds, its sample stored.
@@ -155,10 +174,11 @@ pub fn due_at(
 ) -> Due
     ensures { λ r. ⌜ ((offsets : List Float) → r ≡ dueBy (lt «now_s» «end_s») (samplesIn window (now (rates .entry)) (now (moments .entry)) offsets (now (held .entry)))) ⌝ }
 {
-    if now_s < end_s {
+    let ahead = now_s < end_s;
+    if ahead {
         return Due::Ahead;
     }
-    Due::Class(recorded::classify(rates, moments, held, window.stored(), window.duration_s))
+    Due::Class(class_of(window, rates, moments, held))
 }
 
 // Whether an axis asks for the extension.
@@ -218,7 +238,7 @@ pub fn close_due(
     ensures { λ r. ⌜ r ≡ closedDue due asked «now_s» window «end_s» noisy sweep (now (rates .entry)) (now (moments .entry)) ⌝ }
 {
     let Due::Class(class) = due else {
-        return ended_at(end_s, noisy, sweep, running(now_s));
+        return goes_on(now_s, end_s, noisy, sweep);
     };
     end_by(
         class,
@@ -246,9 +266,11 @@ pub fn close(
 ) -> Ending
     ensures { λ r. ⌜ ((offsets : List Float) → r ≡ closedBy false «now_s» «end_s» noisy sweep (samplesIn window (now (rates .entry)) (now (moments .entry)) offsets (now (held .entry)))) ⌝ }
 {
-    let found = due_at(now_s, end_s, window, rates, moments, held);
-    close_due(
-        found,
+    if now_s < end_s {
+        return goes_on(now_s, end_s, noisy, sweep);
+    }
+    end_by(
+        class_of(window, rates, moments, held),
         false,
         now_s,
         window,

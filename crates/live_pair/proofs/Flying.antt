@@ -19,7 +19,7 @@ use Rattle.marks.specs.Marks.{marksBy, markBytes}
 use Rattle.marks.proofs.Marks.{marks-back}
 use Rattle.live_probe.specs.Live.{Live, live, liveProbe}
 use Rattle.live_probe.specs.Flown.{replyBy}
-use Rattle.two_axis.specs.Axes.{Axis, first, second, axes, TwoCall}
+use Rattle.two_axis.specs.Axes.{Axis, first, second, TwoCall}
 use Rattle.two_axis.specs.Probes.{Probes, freshTwo, stepTwo, moved, afterTwo, repliesTwo}
 use Rattle.two_axis.specs.Accounts.{openedTwo, accountTwo}
 use Rattle.two_axis_probe.specs.declared.TwoStepped.{TwoStepped}

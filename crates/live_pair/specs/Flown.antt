@@ -1,5 +1,6 @@
 -- A caller that opens a pair and steps it: what it then keeps of each axis is that axis's account, and what it was answered is the two-axis run's.
 use Prim.Native.Nat.{ℕ}
+use denote.Triple.Both.{Both}
 use mathlib.Core.Path.{_≡_}
 use mathlib.Core.List.{List, [], _∷_, _++_}
 use lib.Ieee.{Float}
@@ -41,15 +42,15 @@ pub record PairFlies (c : IdentifyConfig) (calls : List TwoCall) (answers : Axis
   pub run : written c calls ≡ reportTwo (λ x. ofProbe (seenTwo (pairProbes k) (pairLents k) x)) ++ wordBytes (inTurn (answers first) (answers second))
 
 -- ---- as the contracts of the calls ensure it
--- an opening of c that answered n and left the scalars t, whatever the arrays hold
-abbrev pub OpensPair : IdentifyConfig → ℕ → (Axis → Scalars) → Type 0
-OpensPair c n t = n ≡ 0 → (l : Axis → Lent) → ((x : Axis) → Whole (l x)) → PairFlies c [] (λ x. []) (λ x. live (t x) (l x))
+-- an opening of c in these scalars that answered n, whatever the arrays hold
+abbrev pub OpensPair : IdentifyConfig → Both (Axis → Scalars) (Axis → Scalars) → ℕ → Type 0
+OpensPair c s n = n ≡ 0 → (l : Axis → Lent) → ((x : Axis) → Whole (l x)) → PairFlies c [] (λ x. []) (λ x. live (s .exit x) (l x))
 
--- a call y of what was flown, which answered n and the offsets and left `next`
-abbrev pub PairFliesOn : Pair → TwoCall → ℕ → (Axis → Float) → Pair → Type 0
-PairFliesOn k y n offset next =
-    (c : IdentifyConfig) (calls : List TwoCall) (answers : Axis → List Reply) → PairFlown c calls answers k
-    → PairFlies c (calls ++ (y ∷ [])) (λ x. answers x ++ (replyBy n (offset x) ∷ [])) next
+-- a call y of what was flown and is kept here, which answered n and these offsets
+abbrev pub PairFliesOn : Both Pair Pair → TwoCall → Both (Axis → Float) (Axis → Float) → ℕ → Type 0
+PairFliesOn k y offset n =
+    (c : IdentifyConfig) (calls : List TwoCall) (answers : Axis → List Reply) → PairFlown c calls answers (k .entry)
+    → PairFlies c (calls ++ (y ∷ [])) (λ x. answers x ++ (replyBy n (offset .exit x) ∷ [])) (k .exit)
 
 -- the report of any scalars and arrays, over the bytes that stood there; moments and offsets have no say
 abbrev pub WritesPairReport : (Axis → Scalars) → (Axis → List Float) → (Axis → List ℕ) → (output left : List ℕ) → Type 0

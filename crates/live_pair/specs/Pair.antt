@@ -2,6 +2,7 @@
 use Prim.Native.Nat.{ℕ, zero, suc}
 use denote.Ref.{RefT}
 use denote.Triple.Both.{Both}
+use mathlib.Core.Path.{_≡_}
 use mathlib.Core.Bool.{Bool, true, false, _&&_, cond}
 use mathlib.Core.Option.{Option, none, some}
 use mathlib.Core.List.{List}
@@ -12,8 +13,8 @@ use Rattle.account.specs.declared.IdentifyConfig.{IdentifyConfig}
 use Rattle.account.specs.Rules.{broken, refusal}
 use Rattle.account.specs.Probe.{number, clock}
 use Rattle.identify.specs.declared.IdentifyProbe.{IdentifyProbe}
-use Rattle.probe_words.specs.Layout.{Scalars, foundIn, leftIn, scalarsOf}
-use Rattle.live_probe.specs.Live.{Live, live, liveProbe, readied}
+use Rattle.probe_words.specs.Layout.{Scalars, foundIn, leftIn, probeIn, scalarsOf}
+use Rattle.live_probe.specs.Live.{Live, live, liveFound, liveLeft, liveProbe, readied}
 use Rattle.two_axis.specs.Axes.{Axis, first, second, axes, TwoCall}
 use Rattle.two_axis_probe.specs.declared.TwoStepped.{TwoStepped}
 use Rattle.two_axis_probe.specs.declared.TwoStepped.the-variants.{Offsets, Ended, Refused}
@@ -29,19 +30,33 @@ pairProbes k x = liveProbe (k x)
 abbrev pub pairLents : Pair → Lents
 pairLents k x = k x .lent
 
--- as a contract names the scalars of both: when the call starts, and when it returns
-abbrev pub bothFound : Borrowed ℕ → Borrowed Float → Borrowed ℕ → Borrowed Float → Axis → Scalars
-bothFound words1 floats1 words2 floats2 = axes (foundIn words1 floats1) (foundIn words2 floats2)
+-- ---- as a contract names them, when the call starts and when it returns
+-- the scalars of both axes
+abbrev pub scalarsOver : Borrowed ℕ → Borrowed Float → Borrowed ℕ → Borrowed Float → Both (Axis → Scalars) (Axis → Scalars)
+scalarsOver words1 floats1 words2 floats2 = record {
+  entry = axes (foundIn words1 floats1) (foundIn words2 floats2);
+  exit = axes (leftIn words1 floats1) (leftIn words2 floats2);
+}
 
-abbrev pub bothLeft : Borrowed ℕ → Borrowed Float → Borrowed ℕ → Borrowed Float → Axis → Scalars
-bothLeft words1 floats1 words2 floats2 = axes (leftIn words1 floats1) (leftIn words2 floats2)
+-- all that is kept of both
+abbrev pub pairOver :
+    Borrowed ℕ → (floats1 rates1 moments1 offsets1 : Borrowed Float) → Borrowed Bool → Borrowed ℕ → (floats2 rates2 moments2 offsets2 : Borrowed Float) → Borrowed Bool
+    → Both Pair Pair
+pairOver words1 floats1 rates1 moments1 offsets1 held1 words2 floats2 rates2 moments2 offsets2 held2 = record {
+  entry = axes (liveFound words1 floats1 rates1 moments1 offsets1 held1) (liveFound words2 floats2 rates2 moments2 offsets2 held2);
+  exit = axes (liveLeft words1 floats1 rates1 moments1 offsets1 held1) (liveLeft words2 floats2 rates2 moments2 offsets2 held2);
+}
 
--- and where the offsets go
-abbrev pub offsetsFound : (offset1 offset2 : Both (RefT Float) (RefT Float)) → Axis → Float
-offsetsFound offset1 offset2 = axes (offset1 .entry .now) (offset2 .entry .now)
+-- where the offsets go
+abbrev pub offsetsOver : (offset1 offset2 : Both (RefT Float) (RefT Float)) → Both (Axis → Float) (Axis → Float)
+offsetsOver offset1 offset2 = record { entry = axes (offset1 .entry .now) (offset2 .entry .now); exit = axes (offset1 .exit .now) (offset2 .exit .now) }
 
-abbrev pub offsetsLeft : (offset1 offset2 : Both (RefT Float) (RefT Float)) → Axis → Float
-offsetsLeft offset1 offset2 = axes (offset1 .exit .now) (offset2 .exit .now)
+-- what is only read
+abbrev pub scalarsRead : Borrowed ℕ → Borrowed Float → Borrowed ℕ → Borrowed Float → Axis → Scalars
+scalarsRead words1 floats1 words2 floats2 = scalarsOver words1 floats1 words2 floats2 .entry
+
+abbrev pub bothRead : {A : Type 0} → Borrowed A → Borrowed A → Axis → List A
+bothRead lent1 lent2 = axes (lent1 .entry .now) (lent2 .entry .now)
 
 -- ---- open
 -- what an opening answers, and the scalars as it leaves them
@@ -61,6 +76,10 @@ pairOpenBy (suc n) c s = pairOpening (suc n) s
 unfoldable pub pairOpen : ℕ → IdentifyConfig → (Axis → Scalars) → PairOpening
 pairOpen zero c s = pairOpenBy (broken c) c s
 pairOpen (suc options) c s = pairOpening 9 s
+
+-- an opening in these scalars answers n
+abbrev pub PairOpened : ℕ → IdentifyConfig → Both (Axis → Scalars) (Axis → Scalars) → ℕ → Type 0
+PairOpened options c s n = pairOpening n (s .exit) ≡ pairOpen options c (s .entry)
 
 -- ---- step
 -- what a call answers, the offsets where they go, and all that the caller keeps as the call leaves it
@@ -89,6 +108,10 @@ pairStep k c found =
     let a = twoSteppedBy (pairProbes k) (pairLents k) c in
     pairFlight (number (replyTwo (a .result) first)) (λ x. offsetAfterTwo (a .result) x (found x)) (λ x. live (scalarsAfterTwo (a .result) x (k x .scalars)) (a .lent x))
 
+-- a call of what is kept here, with its offsets here, answers n
+abbrev pub PairStepped : Both Pair Pair → TwoCall → Both (Axis → Float) (Axis → Float) → ℕ → Type 0
+PairStepped k c offset n = pairFlight n (offset .exit) (k .exit) ≡ pairStep (k .entry) c (offset .entry)
+
 -- ---- marks
 -- whether an axis runs and no rule turns its call back, by the number and the elapsed time
 unfoldable pub acceptedBy : ℕ → Option Float → Bool
@@ -100,5 +123,5 @@ abbrev pub accepted : IdentifyProbe → Float → Bool
 accepted p dt = let time = clock (p .status) in acceptedBy (refusal time (p .ticks) dt) time
 
 -- the bytes of an axis's marks before a call: settled where both axes accept it and this one reads its marks
-unfoldable pub pairReadied : Structs → Axis → Float → List ℕ → List ℕ
-pairReadied p x dt bytes = cond (accepted (p first) dt && accepted (p second) dt) (readied (p x) dt bytes) bytes
+unfoldable pub pairReadied : (Axis → Scalars) → Axis → Float → List ℕ → List ℕ
+pairReadied s x dt bytes = cond (accepted (probeIn (s first)) dt && accepted (probeIn (s second)) dt) (readied (probeIn (s x)) dt bytes) bytes

@@ -1,13 +1,11 @@
 // A pair of probes that their caller keeps and steps, one for each axis: opened, stepped and reported from its own memory.
 ghost use mathlib.Core.Path.{_≡_};
-ghost use Prim.Native.Nat.{ℕ};
 ghost use Rattle.marks.specs.Marks.{KeepsMarks};
 ghost use Rattle.account.specs.Probe.{number};
-ghost use Rattle.probe_words.specs.Layout.{scalars, probeIn};
-ghost use Rattle.live_probe.specs.Live.{configBy, liveFound, liveLeft};
-ghost use Rattle.two_axis.specs.Axes.{Axis, first, second, axes, twoCall};
+ghost use Rattle.live_probe.specs.Live.{configBy};
+ghost use Rattle.two_axis.specs.Axes.{Axis, first, second, twoCall};
 ghost use Rattle.two_axis_probe.specs.Stepped.{replyTwo};
-ghost use Rattle.live_pair.specs.Pair.{bothFound, bothLeft, offsetsFound, offsetsLeft, pairOpening, pairOpen, scalarsAfterTwo, offsetAfterTwo, pairFlight, pairStep, accepted, pairReadied};
+ghost use Rattle.live_pair.specs.Pair.{scalarsOver, pairOver, offsetsOver, scalarsRead, bothRead, PairOpened, scalarsAfterTwo, offsetAfterTwo, PairStepped, accepted, pairReadied};
 ghost use Rattle.live_pair.specs.Flown.{OpensPair, PairFliesOn, WritesPairReport, ReportsPair};
 use account::IdentifyConfig;
 use identify::IdentifyProbe;
@@ -31,8 +29,8 @@ pub fn open(
     extension_duration_s: f32,
     options: u32,
 ) -> u32
-    ensures opening { λ r. ⌜ pairOpening r (bothLeft words1 floats1 words2 floats2) ≡ pairOpen options (configBy amplitude «duration_s» «washout_tc_s» extension «extension_amplitude» «extension_duration_s») (bothFound words1 floats1 words2 floats2) ⌝ }
-    ensures flown { λ r. ⌜ OpensPair (configBy amplitude «duration_s» «washout_tc_s» extension «extension_amplitude» «extension_duration_s») r (bothLeft words1 floats1 words2 floats2) ⌝ }
+    ensures opening { λ r. ⌜ PairOpened options (configBy amplitude «duration_s» «washout_tc_s» extension «extension_amplitude» «extension_duration_s») (scalarsOver words1 floats1 words2 floats2) r ⌝ }
+    ensures flown { λ r. ⌜ OpensPair (configBy amplitude «duration_s» «washout_tc_s» extension «extension_amplitude» «extension_duration_s») (scalarsOver words1 floats1 words2 floats2) r ⌝ }
 {
     if options != 0 {
         return 9;
@@ -71,7 +69,7 @@ fn keep(
     ensures result { λ r. ⌜ r ≡ number (replyTwo stepped first) ⌝ }
     ensures offset1 { λ r. ⌜ now (offset1 .exit) ≡ offsetAfterTwo stepped first (now (offset1 .entry)) ⌝ }
     ensures offset2 { λ r. ⌜ now (offset2 .exit) ≡ offsetAfterTwo stepped second (now (offset2 .entry)) ⌝ }
-    ensures scalars { λ r. ⌜ ((x : Axis) → bothLeft words1 floats1 words2 floats2 x ≡ scalarsAfterTwo stepped x (bothFound words1 floats1 words2 floats2 x)) ⌝ }
+    ensures scalars { λ r. ⌜ ((x : Axis) → scalarsOver words1 floats1 words2 floats2 .exit x ≡ scalarsAfterTwo stepped x (scalarsOver words1 floats1 words2 floats2 .entry x)) ⌝ }
 {
     match stepped {
         TwoStepped::Offsets(x, y, next) => {
@@ -114,8 +112,8 @@ pub fn step(
     offset1: &mut f32,
     offset2: &mut f32,
 ) -> u32
-    ensures flight { λ r. ⌜ pairFlight r (offsetsLeft offset1 offset2) (axes (liveLeft words1 floats1 rates1 moments1 offsets1 held1) (liveLeft words2 floats2 rates2 moments2 offsets2 held2)) ≡ pairStep (axes (liveFound words1 floats1 rates1 moments1 offsets1 held1) (liveFound words2 floats2 rates2 moments2 offsets2 held2)) (twoCall dt rate1 moment1 rate2 moment2) (offsetsFound offset1 offset2) ⌝ }
-    ensures flown { λ r. ⌜ PairFliesOn (axes (liveFound words1 floats1 rates1 moments1 offsets1 held1) (liveFound words2 floats2 rates2 moments2 offsets2 held2)) (twoCall dt rate1 moment1 rate2 moment2) r (offsetsLeft offset1 offset2) (axes (liveLeft words1 floats1 rates1 moments1 offsets1 held1) (liveLeft words2 floats2 rates2 moments2 offsets2 held2)) ⌝ }
+    ensures flight { λ r. ⌜ PairStepped (pairOver words1 floats1 rates1 moments1 offsets1 held1 words2 floats2 rates2 moments2 offsets2 held2) (twoCall dt rate1 moment1 rate2 moment2) (offsetsOver offset1 offset2) r ⌝ }
+    ensures flown { λ r. ⌜ PairFliesOn (pairOver words1 floats1 rates1 moments1 offsets1 held1 words2 floats2 rates2 moments2 offsets2 held2) (twoCall dt rate1 moment1 rate2 moment2) (offsetsOver offset1 offset2) r ⌝ }
 {
     let pair = TwoAxisProbe {
         first: probe_words::probe_of(words1, floats1),
@@ -167,8 +165,8 @@ pub fn ready(
     marks2: &mut [u8; 2048],
     dt: f32,
 )
-    ensures bytes1 { λ _. ⌜ now (marks1 .exit) ≡ pairReadied (axes (probeIn (scalars (now (words1 .entry)) (now (floats1 .entry)))) (probeIn (scalars (now (words2 .entry)) (now (floats2 .entry))))) first dt (now (marks1 .entry)) ⌝ }
-    ensures bytes2 { λ _. ⌜ now (marks2 .exit) ≡ pairReadied (axes (probeIn (scalars (now (words1 .entry)) (now (floats1 .entry)))) (probeIn (scalars (now (words2 .entry)) (now (floats2 .entry))))) second dt (now (marks2 .entry)) ⌝ }
+    ensures bytes1 { λ _. ⌜ now (marks1 .exit) ≡ pairReadied (scalarsRead words1 floats1 words2 floats2) first dt (now (marks1 .entry)) ⌝ }
+    ensures bytes2 { λ _. ⌜ now (marks2 .exit) ≡ pairReadied (scalarsRead words1 floats1 words2 floats2) second dt (now (marks2 .entry)) ⌝ }
     ensures marks1 { λ _. ⌜ KeepsMarks (now (marks1 .entry)) (now (marks1 .exit)) ⌝ }
     ensures marks2 { λ _. ⌜ KeepsMarks (now (marks2 .entry)) (now (marks2 .exit)) ⌝ }
 {
@@ -196,8 +194,8 @@ pub fn report(
     marks2: &[u8; 2048],
     output: &mut [u8],
 )
-    ensures output { λ _. ⌜ WritesPairReport (axes (scalars (now (words1 .entry)) (now (floats1 .entry))) (scalars (now (words2 .entry)) (now (floats2 .entry)))) (axes (now (rates1 .entry)) (now (rates2 .entry))) (axes (now (marks1 .entry)) (now (marks2 .entry))) (now (output .entry)) (now (output .exit)) ⌝ }
-    ensures flown { λ _. ⌜ ReportsPair (axes (scalars (now (words1 .entry)) (now (floats1 .entry))) (scalars (now (words2 .entry)) (now (floats2 .entry)))) (axes (now (rates1 .entry)) (now (rates2 .entry))) (axes (now (marks1 .entry)) (now (marks2 .entry))) (now (output .entry)) (now (output .exit)) ⌝ }
+    ensures output { λ _. ⌜ WritesPairReport (scalarsRead words1 floats1 words2 floats2) (bothRead rates1 rates2) (bothRead marks1 marks2) (now (output .entry)) (now (output .exit)) ⌝ }
+    ensures flown { λ _. ⌜ ReportsPair (scalarsRead words1 floats1 words2 floats2) (bothRead rates1 rates2) (bothRead marks1 marks2) (now (output .entry)) (now (output .exit)) ⌝ }
 {
     let probe1 = probe_words::probe_of(words1, floats1);
     let probe2 = probe_words::probe_of(words2, floats2);

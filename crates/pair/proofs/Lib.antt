@@ -1,3 +1,2 @@
 pub mod Delay
-pub mod Marked
 pub mod Asked

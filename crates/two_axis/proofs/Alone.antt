@@ -11,10 +11,9 @@ use Rattle.window.specs.Samples.{Samples, store}
 use Rattle.recorded.specs.declared.Classified.{Classified}
 use Rattle.recorded.specs.declared.Classified.the-variants.{Recorded, Integrated, Unexcited, Saturated}
 use Rattle.recorded.specs.Classify.{classify}
-use Rattle.account.specs.declared.Noisy.{Noisy}
 use Rattle.account.specs.declared.Noisy.the-variants.{Absent}
 use Rattle.account.specs.Rules.{refusal}
-use Rattle.account.specs.Probe.{Call, Reply, Probe, Step, Closing, clock, takes, extend, close, tick, answer, step, after, replies}
+use Rattle.account.specs.Probe.{Reply, Probe, Step, Closing, clock, takes, extend, close, tick, answer, step, after, replies}
 use Rattle.two_axis.specs.Axes.{Axis, TwoCall, callOf, ownCalls, tied}
 use Rattle.two_axis.specs.Probes.{Probes, wishes, moved, afterTwo, repliesTwo}
 

@@ -1,11 +1,13 @@
 -- One call of a byte run of two axes, from its bytes, as the code has it and as the accounts are fed it, and the words of its answer: 02, request five.
 use Prim.Native.Nat.{ℕ, _+_}
+use denote.Triple.Both.{Both}
+use mathlib.Core.Path.{_≡_}
 use mathlib.Core.List.{List, [], _∷_}
 use Rattle.wire.specs.Words.{bytesOf, floatAt, writtenWithin}
 use Rattle.byte_run.specs.ByteRun.{replyWord}
-use Rattle.two_axis.specs.Axes.{first, second, TwoCall, twoCall}
+use Rattle.two_axis.specs.Axes.{Axis, first, second, TwoCall, twoCall}
 use Rattle.two_axis_probe.specs.declared.TwoStepped.{TwoStepped}
-use Rattle.two_axis_probe.specs.Stepped.{replyTwo}
+use Rattle.two_axis_probe.specs.Stepped.{Structs, Lents, twoSteppedBy, leavesTwo, replyTwo}
 use Rattle.two_axis_calls.specs.declared.TwoCall as code
 
 -- "Each call brings one dt and two pairs of readings": dt, rate 1, moment 1, rate 2, moment 2 at byte i
@@ -23,3 +25,9 @@ answerWords s = replyWord (replyTwo s first) ∷ replyWord (replyTwo s second) �
 -- written to the front of a slice, each where it fits
 abbrev pub wordsWithin : TwoStepped → List ℕ → List ℕ
 wordsWithin s l = writtenWithin 4 (bytesOf 4 (replyWord (replyTwo s second))) (writtenWithin 0 (bytesOf 4 (replyWord (replyTwo s first))) l)
+
+-- a call c of the probes p over these arrays: the probes q that it leaves, the arrays, and the output, in which the bytes of its answer stand
+abbrev pub RunsCall : Structs → Both Lents Lents → TwoCall → Structs → (TwoStepped → List ℕ) → List ℕ → Type 0
+RunsCall p l c q bytes output =
+    let a = twoSteppedBy p (l .entry) c in
+    (q ≡ leavesTwo (a .result) p) × (((x : Axis) → l .exit x ≡ a .lent x) × (output ≡ bytes (a .result)))

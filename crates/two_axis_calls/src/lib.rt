@@ -3,9 +3,9 @@ ghost use mathlib.Core.Path.{_≡_};
 ghost use Prim.Native.Nat.{_≤_};
 ghost use Rattle.wire.specs.Words.{bytesOf, writtenWithin};
 ghost use Rattle.account.specs.Probe.{number};
-ghost use Rattle.two_axis.specs.Axes.{Axis, first};
-ghost use Rattle.two_axis_probe.specs.Stepped.{probesOf, bothAtEntry, bothAtExit, twoSteppedBy, leavesTwo, replyTwo};
-ghost use Rattle.two_axis_calls.specs.Calls.{callAt, asCall, wordsWithin};
+ghost use Rattle.two_axis.specs.Axes.{first};
+ghost use Rattle.two_axis_probe.specs.Stepped.{probesOf, lentsOver, leavesTwo, replyTwo};
+ghost use Rattle.two_axis_calls.specs.Calls.{callAt, asCall, wordsWithin, RunsCall};
 use two_axis_probe::TwoAxisProbe;
 use two_axis_probe::TwoStepped;
 
@@ -77,9 +77,7 @@ pub fn run_call(
     bytes: &[u8],
     output: &mut [u8],
 ) -> TwoAxisProbe
-    ensures probe { λ r. ⌜ probesOf r ≡ leavesTwo (twoSteppedBy (probesOf probe) (bothAtEntry rates1 moments1 offsets1 held1 rates2 moments2 offsets2 held2) (callAt (now (bytes .entry)) 0) .result) (probesOf probe) ⌝ }
-    ensures lent { λ r. ⌜ ((x : Axis) → bothAtExit rates1 moments1 offsets1 held1 rates2 moments2 offsets2 held2 x ≡ twoSteppedBy (probesOf probe) (bothAtEntry rates1 moments1 offsets1 held1 rates2 moments2 offsets2 held2) (callAt (now (bytes .entry)) 0) .lent x) ⌝ }
-    ensures output { λ r. ⌜ now (output .exit) ≡ wordsWithin (twoSteppedBy (probesOf probe) (bothAtEntry rates1 moments1 offsets1 held1 rates2 moments2 offsets2 held2) (callAt (now (bytes .entry)) 0) .result) (now (output .entry)) ⌝ }
+    ensures { λ r. ⌜ RunsCall (probesOf probe) (lentsOver rates1 moments1 offsets1 held1 rates2 moments2 offsets2 held2) (callAt (now (bytes .entry)) 0) (probesOf r) (λ a. wordsWithin a (now (output .entry))) (now (output .exit)) ⌝ }
 {
     let call = call_of(bytes);
     let stepped = probe.step(

@@ -1,7 +1,7 @@
 -- Both axes over a list of calls. What `fresh` and calls of `step` leave is what the definitions' two probes are after the same calls: they have one clock after
 -- every list, so each call is each axis's own step. So the structs and the arrays hold the accounts.
 use Prim.Native.Nat.{ℕ, zero, suc, _≤_}
-use mathlib.Core.Path.{_≡_, refl, sym, ap, fun-ext, _∙_}
+use mathlib.Core.Path.{_≡_, sym, ap, fun-ext, _∙_}
 use mathlib.Core.Bool.{false}
 use mathlib.Core.Option.{Option, none, some}
 use mathlib.Core.List.{List, [], _∷_, _++_, foldl-append}
@@ -10,15 +10,14 @@ use lib.Ieee.{Float}
 use Rattle.window.specs.Samples.{capacity}
 use Rattle.window.specs.Lent.{Whole}
 use Rattle.account.specs.declared.IdentifyConfig.{IdentifyConfig}
-use Rattle.account.specs.Probe.{Probe, Reply, Step, clock}
-use Rattle.identify.specs.Seen.{seen, freshProbeAt, storedIn}
+use Rattle.account.specs.Probe.{Step, clock}
+use Rattle.identify.specs.Seen.{seen, freshProbeAt}
 use Rattle.identify.proofs.Making.{stored-whole, ticked-fits}
 use Rattle.identify.proofs.Making as making
 use Rattle.two_axis.specs.Axes.{Axis, first, second, level, axes, TwoCall, callOf}
 use Rattle.two_axis.specs.Probes.{Probes, freshTwo, stepTwo, moved, afterTwo}
 use Rattle.two_axis.specs.Accounts.{openedTwo, accountTwo}
 use Rattle.two_axis.proofs.Theorem.{two-accounted}
-use Rattle.two_axis_probe.specs.declared.TwoStepped.{TwoStepped}
 use Rattle.two_axis_probe.specs.Stepped.{Structs, Lents, probesOf, seenTwo, freshTwoAxis, tiedIn, twoTicked, eitherNumber, numberIn, twoAnswerBy, twoSteppedBy, leavesTwo, replyTwo}
 use Rattle.two_axis_probe.specs.Held.{Stands, HoldsTwo}
 use Rattle.two_axis_probe.proofs.Stepping.{steps}

@@ -1,21 +1,20 @@
 -- A call of both axes, by what it meets: a rule that turns it back, an axis that has ended, or two that run.
 -- Where both axes have one clock and as many ticks, its answer is for each axis the definitions' step, asked by the other's wish.
 use Prim.Native.Nat.{ℕ, zero, suc, _<_}
-use mathlib.Core.Path.{_≡_, refl, sym, ap, ap₂, subst₂, _∙_}
+use mathlib.Core.Path.{_≡_, refl, sym, ap, ap₂, _∙_}
 use mathlib.Core.Bool.{Bool, true, false, not, _&&_}
 use mathlib.Core.Option.{Option, none, some}
 use native.Mathlib.Omega.{arith}
-use lib.Ieee.{Float, binary32, add, lt}
+use lib.Ieee.{Float, lt}
 use Rattle.window.specs.Samples.{Samples}
-use Rattle.window.specs.Arrays.{nextWindow}
 use Rattle.window.specs.Lent.{Lent, Whole, samplesOf}
 use Rattle.recorded.specs.Classify.{classify}
 use Rattle.account.specs.Rules.{refusal}
-use Rattle.account.specs.Probe.{Call, Probe, Reply, Step, clock, tick, answer, step}
+use Rattle.account.specs.Probe.{Call, Probe, Step, clock, tick, answer, step}
 use Rattle.account.specs.Account.{isIntegrated}
 use Rattle.closing.specs.Ending.{dueBy, asksOf}
 use Rattle.identify.specs.declared.IdentifyProbe.{IdentifyProbe}
-use Rattle.identify.specs.Seen.{seen, begunBy, storedIn, tickedProbe, ticked, answered, leaves, replyOf}
+use Rattle.identify.specs.Seen.{seen, begunBy, storedIn, tickedProbe, ticked, leaves, replyOf}
 use Rattle.identify.proofs.Ticking.{ticks}
 use Rattle.identify.proofs.Stepping.{few-ticks}
 use Rattle.two_axis.specs.Axes.{Axis, first, second, other, axes, TwoCall, callOf, tied}

@@ -1,12 +1,13 @@
 -- An accepted call of both axes, put together from their halves: each axis's second half is the end of its tick, asked by the other's wish.
 use Prim.Native.Nat.{suc}
 use mathlib.Core.Path.{_≡_}
-use mathlib.Core.Bool.{Bool}
+use mathlib.Core.Bool.{Bool, true}
 use lib.Ieee.{Float, lt}
 use Rattle.window.specs.Lent.{Lent, samplesOf}
 use Rattle.account.specs.Probe.{alone}
 use Rattle.closing.specs.declared.Due.{Due}
-use Rattle.closing.specs.Ending.{dueBy, asksOf, closedDue}
+use Rattle.closing.specs.declared.Due.the-variants.{Ahead}
+use Rattle.closing.specs.Ending.{aheadOf, dueBy, asksOf, closedDue}
 use Rattle.closing.proofs.Closing.{halves}
 use Rattle.identify.specs.declared.Begun.{Begun}
 use Rattle.identify.specs.declared.IdentifyProbe.{IdentifyProbe}
@@ -34,6 +35,14 @@ module _ (e : Float) (p : IdentifyProbe) (l : Lent) (dt rate moment : Float) (b 
   leaves asked =
       rw (hd, halves (b .«now_s») (p .«duration_s») (p .noisy) (b .sweep) (b .window) (k .rates) (k .moments) (k .offsets) (k .marks) asked, hb)
       (rw hk)
+
+-- with its end time ahead an axis runs on, whatever the other asks
+pub runs-on : (e : Float) (p : IdentifyProbe) (l : Lent) (dt rate moment : Float) (b : Begun) (k : Lent)
+    → b ≡ begunBy e p dt → k ≡ storedIn e p l (alone dt rate moment) → lt (b .«now_s») (p .«duration_s») ≡ true → (asked : Bool)
+    → nextProbe (suc (p .ticks)) (b .window) (aheadOf (b .«now_s») (p .«duration_s») (p .noisy) (b .sweep))
+    ≡ tickedProbe e p l (record { dt = dt; rate = rate; moment = moment; asked = asked })
+unfolding dueBy closedDue
+runs-on e p l dt rate moment b k hb hk below asked = leaves e p l dt rate moment b k Ahead hb hk (rw below) asked
 
 -- both
 pub made : (e : Axis → Float) (p : Structs) (l : Lents) (c : TwoCall) (b d : Begun) (q r : IdentifyProbe)

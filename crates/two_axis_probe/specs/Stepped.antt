@@ -1,5 +1,7 @@
 -- The probe of two axes, as it stands in the struct and in the arrays that are lent with it; and what `fresh` and `step` make of them.
 use Prim.Native.Nat.{ℕ, zero, suc}
+use denote.Triple.Both.{Both}
+use mathlib.Core.Path.{_≡_}
 use mathlib.Core.Bool.{Bool, true, false}
 use mathlib.Core.Option.{Option, none, some}
 use lib.Ieee.{Float, lt}
@@ -27,12 +29,12 @@ Lents = Axis → Lent
 abbrev pub probesOf : TwoAxisProbe → Structs
 probesOf p = axes (p .first) (p .second)
 
--- as a contract names the arrays of both: when the call starts, and when it returns
-abbrev pub bothAtEntry : (rates1 moments1 offsets1 : Borrowed Float) → Borrowed Bool → (rates2 moments2 offsets2 : Borrowed Float) → Borrowed Bool → Lents
-bothAtEntry rates1 moments1 offsets1 held1 rates2 moments2 offsets2 held2 = axes (atEntry rates1 moments1 offsets1 held1) (atEntry rates2 moments2 offsets2 held2)
-
-abbrev pub bothAtExit : (rates1 moments1 offsets1 : Borrowed Float) → Borrowed Bool → (rates2 moments2 offsets2 : Borrowed Float) → Borrowed Bool → Lents
-bothAtExit rates1 moments1 offsets1 held1 rates2 moments2 offsets2 held2 = axes (atExit rates1 moments1 offsets1 held1) (atExit rates2 moments2 offsets2 held2)
+-- the arrays of both as a contract names them, when the call starts and when it returns
+abbrev pub lentsOver : (rates1 moments1 offsets1 : Borrowed Float) → Borrowed Bool → (rates2 moments2 offsets2 : Borrowed Float) → Borrowed Bool → Both Lents Lents
+lentsOver rates1 moments1 offsets1 held1 rates2 moments2 offsets2 held2 = record {
+  entry = axes (atEntry rates1 moments1 offsets1 held1) (atEntry rates2 moments2 offsets2 held2);
+  exit = axes (atExit rates1 moments1 offsets1 held1) (atExit rates2 moments2 offsets2 held2);
+}
 
 -- the probes of the definitions
 abbrev pub seenTwo : Structs → Lents → Probes
@@ -48,6 +50,10 @@ freshTwoAxis c = record { first = freshProbeAt true c; second = freshProbeAt fal
 pub record TwoAnswer : Type 0 where
   pub result : TwoStepped
   pub lent : Lents
+
+-- a call over these arrays answers r and leaves them as this answer has them, axis by axis
+abbrev pub AnswersTwo : Both Lents Lents → (Lents → TwoAnswer) → TwoStepped → Type 0
+AnswersTwo l answer r = (r ≡ answer (l .entry) .result) × ((x : Axis) → l .exit x ≡ answer (l .entry) .lent x)
 
 -- "if either window is integrated when duration_s is reached": with this call stored, of an axis that has run for e
 unfoldable pub wishIn : Float → IdentifyProbe → Lent → Call → Bool

@@ -3,10 +3,10 @@ ghost use mathlib.Core.Path.{_≡_};
 ghost use Prim.Native.Nat.{suc, _<_};
 ghost use Rattle.account.specs.Rules.{refusal};
 ghost use Rattle.account.specs.Probe.{clock};
-ghost use Rattle.closing.specs.Ending.{closedDue};
+ghost use Rattle.closing.specs.Ending.{aheadOf, closedDue};
 ghost use Rattle.identify.specs.Seen.{nextProbe};
-ghost use Rattle.two_axis.specs.Axes.{Axis, axes, twoCall};
-ghost use Rattle.two_axis_probe.specs.Stepped.{probesOf, freshTwoAxis, eitherNumber, bothAtEntry, bothAtExit, twoTicked, twoSteppedBy};
+ghost use Rattle.two_axis.specs.Axes.{axes, twoCall};
+ghost use Rattle.two_axis_probe.specs.Stepped.{probesOf, freshTwoAxis, eitherNumber, lentsOver, AnswersTwo, twoTicked, twoSteppedBy};
 use account::IdentifyConfig;
 use closing::Due;
 use identify::Begun;
@@ -77,6 +77,21 @@ fn end_tick(
     identify::next_probe(probe.ticks + 1, window, end)
 }
 
+// The same with the end time still ahead.
+fn run_on(probe: IdentifyProbe, begun: Begun) -> IdentifyProbe
+    requires { ⌜ probe .ticks < 16777216 ⌝ }
+    ensures { λ r. ⌜ r ≡ nextProbe (suc (probe .ticks)) (begun .window) (aheadOf (begun .«now_s») (probe .«duration_s») (probe .noisy) (begun .sweep)) ⌝ }
+{
+    let window = begun.window;
+    let noisy = probe.noisy;
+    let sweep = begun.sweep;
+    identify::next_probe(
+        probe.ticks + 1,
+        window,
+        closing::goes_on(begun.now_s, probe.duration_s, noisy, sweep),
+    )
+}
+
 // A call that no rule turns back, of axes that have run for elapsed1 and elapsed2. Both samples are stored before either window is looked at, and both windows are looked at before either axis goes on.
 fn tick(
     first: IdentifyProbe,
@@ -98,8 +113,7 @@ fn tick(
     moment2: f32,
 ) -> TwoStepped
     requires { ⌜ (first .ticks < 16777216) × (second .ticks < 16777216) ⌝ }
-    ensures result { λ r. ⌜ r ≡ twoTicked (axes elapsed1 elapsed2) (axes first second) (bothAtEntry rates1 moments1 offsets1 held1 rates2 moments2 offsets2 held2) (twoCall dt rate1 moment1 rate2 moment2) .result ⌝ }
-    ensures lent { λ r. ⌜ ((x : Axis) → bothAtExit rates1 moments1 offsets1 held1 rates2 moments2 offsets2 held2 x ≡ twoTicked (axes elapsed1 elapsed2) (axes first second) (bothAtEntry rates1 moments1 offsets1 held1 rates2 moments2 offsets2 held2) (twoCall dt rate1 moment1 rate2 moment2) .lent x) ⌝ }
+    ensures { λ r. ⌜ AnswersTwo (lentsOver rates1 moments1 offsets1 held1 rates2 moments2 offsets2 held2) (λ l. twoTicked (axes elapsed1 elapsed2) (axes first second) l (twoCall dt rate1 moment1 rate2 moment2)) r ⌝ }
 {
     let begun1 = identify::begin(
         first,
@@ -123,6 +137,16 @@ fn tick(
         rate2,
         moment2,
     );
+    if (begun1.now_s < first.duration_s) & (begun2.now_s < second.duration_s) {
+        return TwoStepped::Offsets(
+            begun1.offset,
+            begun2.offset,
+            TwoAxisProbe {
+                first: run_on(first, begun1),
+                second: run_on(second, begun2),
+            },
+        );
+    }
     let window1 = begun1.window;
     let window2 = begun2.window;
     let due1 = closing::due_at(
@@ -182,8 +206,7 @@ impl TwoAxisProbe {
         rate2: f32,
         moment2: f32,
     ) -> TwoStepped
-        ensures result { λ r. ⌜ r ≡ twoSteppedBy (probesOf self) (bothAtEntry rates1 moments1 offsets1 held1 rates2 moments2 offsets2 held2) (twoCall dt rate1 moment1 rate2 moment2) .result ⌝ }
-        ensures lent { λ r. ⌜ ((x : Axis) → bothAtExit rates1 moments1 offsets1 held1 rates2 moments2 offsets2 held2 x ≡ twoSteppedBy (probesOf self) (bothAtEntry rates1 moments1 offsets1 held1 rates2 moments2 offsets2 held2) (twoCall dt rate1 moment1 rate2 moment2) .lent x) ⌝ }
+        ensures { λ r. ⌜ AnswersTwo (lentsOver rates1 moments1 offsets1 held1 rates2 moments2 offsets2 held2) (λ l. twoSteppedBy (probesOf self) l (twoCall dt rate1 moment1 rate2 moment2)) r ⌝ }
     {
         let first = self.first;
         let second = self.second;

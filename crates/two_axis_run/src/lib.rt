@@ -1,15 +1,14 @@
-// The byte run of two axes: a configuration, calls and a report as bytes.
+// The byte run of two axes, which its own static library exports: a configuration, calls and a report as bytes.
 ghost use mathlib.Core.Path.{_≡_};
 ghost use Prim.Native.Nat.{_+_, _*_, _/_, _≤_};
 ghost use lib.ListN.{length};
 ghost use Rattle.wire.specs.Words.{wordBytes, writtenAt};
 ghost use Rattle.window.specs.Lent.{lent, Whole};
 ghost use Rattle.byte_run.specs.ByteRun.{onto};
-ghost use Rattle.two_axis.specs.Axes.{Axis};
 ghost use Rattle.two_axis.specs.Accounts.{openedTwo, accountTwo};
-ghost use Rattle.two_axis_probe.specs.Stepped.{probesOf, bothAtEntry, bothAtExit, twoSteppedBy, leavesTwo};
+ghost use Rattle.two_axis_probe.specs.Stepped.{probesOf, lentsOver};
 ghost use Rattle.two_axis_probe.specs.Held.{HoldsTwo};
-ghost use Rattle.two_axis_calls.specs.Calls.{callAt, answerWords};
+ghost use Rattle.two_axis_calls.specs.Calls.{callAt, answerWords, RunsCall};
 ghost use Rattle.two_axis_run.specs.TwoAxisRun.{callsOf, wordsOf, written, sizedTwo, twoAxisRun, TellsDelays, TellsModels, TellsSumsOf};
 use account::IdentifyConfig;
 use two_axis_probe::TwoAxisProbe;
@@ -37,9 +36,7 @@ fn run_call(
     output: &mut [u8],
 ) -> TwoAxisProbe
     requires { ⌜ (20 * k + 20 ≤ length (now calls)) × (77 + 8 * k + 8 ≤ length (now output)) ⌝ }
-    ensures probe { λ r. ⌜ probesOf r ≡ leavesTwo (twoSteppedBy (probesOf probe) (bothAtEntry rates1 moments1 offsets1 held1 rates2 moments2 offsets2 held2) (callAt (now (calls .entry)) (20 * k)) .result) (probesOf probe) ⌝ }
-    ensures lent { λ r. ⌜ ((x : Axis) → bothAtExit rates1 moments1 offsets1 held1 rates2 moments2 offsets2 held2 x ≡ twoSteppedBy (probesOf probe) (bothAtEntry rates1 moments1 offsets1 held1 rates2 moments2 offsets2 held2) (callAt (now (calls .entry)) (20 * k)) .lent x) ⌝ }
-    ensures output { λ r. ⌜ now (output .exit) ≡ writtenAt (77 + 8 * k) (wordBytes (answerWords (twoSteppedBy (probesOf probe) (bothAtEntry rates1 moments1 offsets1 held1 rates2 moments2 offsets2 held2) (callAt (now (calls .entry)) (20 * k)) .result))) (now (output .entry)) ⌝ }
+    ensures { λ r. ⌜ RunsCall (probesOf probe) (lentsOver rates1 moments1 offsets1 held1 rates2 moments2 offsets2 held2) (callAt (now (calls .entry)) (20 * k)) (probesOf r) (λ a. writtenAt (77 + 8 * k) (wordBytes (answerWords a)) (now (output .entry))) (now (output .exit)) ⌝ }
 {
     let from = 20 * k;
     let bytes = &calls[from..from + 20];
@@ -74,7 +71,7 @@ fn run_calls(
     output: &mut [u8],
 ) -> TwoAxisProbe
     requires { ⌜ (77 + 8 * (length (now calls) / 20) ≤ length (now output)) × Whole (lent (now rates1) (now moments1) (now offsets1) (now held1)) × Whole (lent (now rates2) (now moments2) (now offsets2) (now held2)) ⌝ }
-    ensures accounted { λ r. ⌜ HoldsTwo config (callsOf (now (calls .entry))) (probesOf r) (bothAtExit rates1 moments1 offsets1 held1 rates2 moments2 offsets2 held2) (accountTwo (openedTwo config) (callsOf (now (calls .entry)))) ⌝ }
+    ensures accounted { λ r. ⌜ HoldsTwo config (callsOf (now (calls .entry))) (probesOf r) (lentsOver rates1 moments1 offsets1 held1 rates2 moments2 offsets2 held2 .exit) (accountTwo (openedTwo config) (callsOf (now (calls .entry)))) ⌝ }
     ensures output { λ r. ⌜ now (output .exit) ≡ writtenAt 77 (wordBytes (wordsOf config (callsOf (now (calls .entry))))) (now (output .entry)) ⌝ }
 {
     let mut p = TwoAxisProbe::fresh(config);
@@ -135,7 +132,8 @@ fn run(config: IdentifyConfig, calls: &[u8], output: &mut [u8])
 
 // A run of two axes from a configuration of 24 bytes over calls of 20 bytes each. It writes the report of both axes and then two words a call.
 // It answers 0, or the number of the rule, 1 to 5 or 9, that is broken; then no byte is written.
-pub fn two_axis_run(config: &[u8], calls: &[u8], output: &mut [u8]) -> u32
+#[no_mangle]
+pub extern "C" fn identify_two_axis_run(config: &[u8], calls: &[u8], output: &mut [u8]) -> u32
     ensures result { λ r. ⌜ r ≡ twoAxisRun (now (config .entry)) (now (calls .entry)) (now (output .entry)) .result ⌝ }
     ensures output { λ r. ⌜ now (output .exit) ≡ twoAxisRun (now (config .entry)) (now (calls .entry)) (now (output .entry)) .output ⌝ }
     ensures delays { λ r. ⌜ TellsDelays (now (config .entry)) (now (calls .entry)) r (now (output .exit)) ⌝ }

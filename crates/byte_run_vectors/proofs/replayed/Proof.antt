@@ -4,10 +4,10 @@ use Rattle.byte_run_vectors.proofs.replayed.Statement.{statement}
 use Rattle.byte_run_vectors.proofs.replayed.Tie as tie
 
 abbrev Inv-loop : tie.InvT-loop
-Inv-loop s records₀ records = Unit {0}
+Inv-loop two-axes s records₀ records = Unit {0}
 
 abbrev μ-loop : tie.MeasureT-loop
-μ-loop s records₀ records = records .left
+μ-loop two-axes s records₀ records = records .left
 
 loop-less : tie.Need-loop-less Inv-loop μ-loop
 loop-less c = omega arith

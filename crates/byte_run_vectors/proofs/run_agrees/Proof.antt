@@ -15,14 +15,14 @@ same-length c = search needs
 returns : tie.Need-returns
 returns c = search needs
 
-slice-relend-prefix-byte-run : tie.Need-slice-relend-prefix-byte-run
-slice-relend-prefix-byte-run c = search needs
+slice-relend-prefix-run : tie.Need-slice-relend-prefix-run
+slice-relend-prefix-run c = search needs
 
-slice-aggregate-byte-run : tie.Need-slice-aggregate-byte-run
-slice-aggregate-byte-run c = sym (length-take-le _ _ (omega arith))
+slice-aggregate-run : tie.Need-slice-aggregate-run
+slice-aggregate-run c = sym (length-take-le _ _ (omega arith))
 
-byte-run-requires : tie.Need-byte-run-requires
-byte-run-requires c κs = search needs
+run-requires : tie.Need-run-requires
+run-requires c κs = search needs
 
 holds-requires : tie.Need-holds-requires
 holds-requires c κs = search needs
@@ -40,9 +40,9 @@ run-agrees-spec =
     fill-requires
     same-length
     returns
-    slice-relend-prefix-byte-run
-    slice-aggregate-byte-run
-    byte-run-requires
+    slice-relend-prefix-run
+    slice-aggregate-run
+    run-requires
     holds-requires
     same-length-2
     returns-2)

@@ -1,5 +1,4 @@
 -- `asks` is `asksOf`, an arm each.
-use mathlib.Core.Path.{sym, ap, _∙_}
 use Rattle.closing.specs.Ending.{asksOf}
 use borrow.Author.Needs.{needs}
 use Rattle.closing.proofs.asks.Statement.{statement}

@@ -1,22 +1,34 @@
--- `close` is the two halves of the end of a tick, asked by nobody.
+-- `close` tests the end time, and asks nobody.
 use mathlib.Core.Path.{_∙_}
 use mathlib.Core.Bool.{false}
-use Rattle.closing.proofs.Closing.{halves}
+use Rattle.closing.proofs.Closing.{ahead, over}
 use borrow.Author.Needs.{needs}
 use Rattle.closing.proofs.close.Statement.{statement}
 use Rattle.closing.proofs.close.Tie as tie
 
-due-at-requires : tie.Need-due-at-requires
-due-at-requires c κs = search needs
-
-close-due-requires : tie.Need-close-due-requires
-close-due-requires c κs = search needs
+goes-on-requires : tie.Need-goes-on-requires
+goes-on-requires c κs = search needs
 
 returns : tie.Need-returns
 returns c =
     λ offsets.
-    let a = c .before .before .args in
-    rw (c .close-due .ensures, c .before .due-at .ensures offsets) (halves (a .now-s) (a .end-s) (a .noisy) (a .sweep) (a .window) (a .rates .now) (a .moments .now) offsets (a .held .now) false)
+    let t = c .before in
+    let a = t .before .args in
+    c .goes-on .ensures ∙ ahead (a .now-s) (a .end-s) (a .noisy) (a .sweep) (a .window) (a .rates .now) (a .moments .now) offsets (a .held .now) false (t .if1 .taken)
+
+class-of-requires : tie.Need-class-of-requires
+class-of-requires c κs = search needs
+
+end-by-requires : tie.Need-end-by-requires
+end-by-requires c κs = search needs
+
+returns-2 : tie.Need-returns-2
+returns-2 c =
+    λ offsets.
+    let class = c .before in
+    let t = class .before in
+    let a = t .before .args in
+    rw (c .end-by .ensures, class .class-of .ensures offsets) (over (a .now-s) (a .end-s) (a .noisy) (a .sweep) (a .window) (a .rates .now) (a .moments .now) offsets (a .held .now) false (t .if1 .left))
 
 pub close-spec : {M : Type 1} → statement M
-close-spec = tie.close (tie.spec due-at-requires close-due-requires returns)
+close-spec = tie.close (tie.spec goes-on-requires returns class-of-requires end-by-requires returns-2)

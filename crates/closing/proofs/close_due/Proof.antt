@@ -10,15 +10,12 @@ enum-known-due c = search needs
 enum-told : tie.Need-enum-told
 enum-told c = search needs
 
-running-requires : tie.Need-running-requires
-running-requires c κs = search needs
-
-ended-at-requires : tie.Need-ended-at-requires
-ended-at-requires c κs = search needs
+goes-on-requires : tie.Need-goes-on-requires
+goes-on-requires c κs = search needs
 
 returns : tie.Need-returns
 unfolding closedDue
-returns c = rw (c .before .before .enum-told .given .1, c .ended-at .ensures, c .before .running .ensures)
+returns c = rw (c .before .enum-told .given .1) (c .goes-on .ensures)
 
 end-by-requires : tie.Need-end-by-requires
 end-by-requires c κs = search needs
@@ -33,8 +30,7 @@ close-due-spec =
     (tie.spec
     enum-known-due
     enum-told
-    running-requires
-    ended-at-requires
+    goes-on-requires
     returns
     end-by-requires
     returns-2)

@@ -1,5 +1,4 @@
 -- `due_at` is `dueBy`: the end time first, then the class.
-use Rattle.window.specs.Arrays.{samplesIn}
 use Rattle.closing.specs.Ending.{dueBy}
 use borrow.Author.Needs.{needs}
 use Rattle.closing.proofs.due_at.Statement.{statement}
@@ -9,15 +8,12 @@ returns : tie.Need-returns
 unfolding dueBy
 returns c = λ offsets. rw (c .if1 .taken)
 
-stored-requires : tie.Need-stored-requires
-stored-requires c κs = search needs
-
-classify-requires : tie.Need-classify-requires
-classify-requires c κs = search needs
+class-of-requires : tie.Need-class-of-requires
+class-of-requires c κs = search needs
 
 returns-2 : tie.Need-returns-2
-unfolding dueBy samplesIn
-returns-2 c = λ offsets. rw (c .before .before .if1 .left, c .classify .ensures, c .before .stored .ensures)
+unfolding dueBy
+returns-2 c = λ offsets. rw (c .before .if1 .left, ← c .class-of .ensures offsets)
 
 pub due-at-spec : {M : Type 1} → statement M
-due-at-spec = tie.close (tie.spec returns stored-requires classify-requires returns-2)
+due-at-spec = tie.close (tie.spec returns class-of-requires returns-2)

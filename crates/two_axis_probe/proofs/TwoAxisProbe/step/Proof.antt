@@ -5,7 +5,7 @@ use Rattle.account.specs.Probe.{clock}
 use Rattle.rules.specs.Clock.{timeOf}
 use Rattle.window.specs.Lent.{lent}
 use Rattle.identify.proofs.Stepping.{clocks}
-use Rattle.two_axis.specs.Axes.{Axis, first, second, axes, twoCall}
+use Rattle.two_axis.specs.Axes.{first, second, axes, twoCall}
 use Rattle.two_axis_probe.specs.Stepped.{TwoAnswer, Lents, probesOf}
 use Rattle.two_axis_probe.proofs.Stepping.{turned-back, first-stopped, second-stopped, both-run, few}
 use borrow.Author.Needs.{needs}

@@ -1,4 +1,4 @@
--- `two_axis_run` makes the tests of the definition in their order: the sizes, the configuration, and then the run.
+-- `identify_two_axis_run` makes the tests of the definition in their order: the sizes, the configuration, and then the run.
 use mathlib.Core.Path.{_≡_, sym, ap, _∙_}
 use mathlib.Core.Bool.{true}
 use borrow.Author.Needs.{needs}
@@ -9,8 +9,8 @@ use Rattle.byte_config.specs.ByteConfig.{configOf}
 use Rattle.two_axis_run.specs.TwoAxisRun.{sizedTwo}
 use Rattle.two_axis_run.proofs.Reading.{output-size}
 use Rattle.two_axis_run.proofs.Ran.{not-sized, run-refused, run-started, tells}
-use Rattle.two_axis_run.proofs.two_axis_run.Statement.{statement}
-use Rattle.two_axis_run.proofs.two_axis_run.Tie as tie
+use Rattle.two_axis_run.proofs.identify_two_axis_run.Statement.{statement}
+use Rattle.two_axis_run.proofs.identify_two_axis_run.Tie as tie
 
 is-sized-requires : tie.Need-is-sized-requires
 is-sized-requires c κs = search needs
@@ -72,8 +72,8 @@ returns-3 c =
     let output = rw (v .before .config-of .ensures) at (r .run .ensures) ∙ sym (ap (λ (x : Ran). x .output) is) in
     (result, (output, tells (a .config .now) (a .calls .now) (a .output .now) result output))
 
-pub two-axis-run-spec : {M : Type 1} → statement M
-two-axis-run-spec =
+pub identify-two-axis-run-spec : {M : Type 1} → statement M
+identify-two-axis-run-spec =
     tie.close
     (tie.spec
     is-sized-requires
