@@ -6,8 +6,8 @@ use Rattle.account.specs.Probe.{delayOf}
 use Rattle.probe_words.specs.Layout.{Scalars, probeIn}
 use Rattle.live_status.specs.Status.{statusIn, statusNumbers}
 use Rattle.live_status.proofs.Told.{told}
-use Rattle.live_pair.specs.Flown.{TellsAxisDelay}
-use Rattle.live_pair.proofs.Flying.{flies}
+use Rattle.pair.specs.Flown.{TellsAxisDelay}
+use Rattle.pair.proofs.Flying.{flies}
 
 pub tells : (s : Scalars) (numbers : List ℕ) → numbers ≡ statusNumbers (statusIn (s .words) (s .floats)) → TellsAxisDelay s numbers
 unfolding probeIn

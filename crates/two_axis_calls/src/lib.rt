@@ -5,7 +5,7 @@ ghost use Rattle.wire.specs.Words.{bytesOf, writtenWithin};
 ghost use Rattle.account.specs.Probe.{number};
 ghost use Rattle.two_axis.specs.Axes.{first};
 ghost use Rattle.two_axis_probe.specs.Stepped.{probesOf, lentsOver, leavesTwo, replyTwo};
-ghost use Rattle.two_axis_calls.specs.Calls.{callAt, asCall, wordsWithin, RunsCall};
+ghost use Rattle.two_axis_calls.specs.Calls.{callAt, asCall, wordsWithin, WordsIn, RunsCall};
 use two_axis_probe::TwoAxisProbe;
 use two_axis_probe::TwoStepped;
 
@@ -77,7 +77,7 @@ pub fn run_call(
     bytes: &[u8],
     output: &mut [u8],
 ) -> TwoAxisProbe
-    ensures { λ r. ⌜ RunsCall (probesOf probe) (lentsOver rates1 moments1 offsets1 held1 rates2 moments2 offsets2 held2) (callAt (now (bytes .entry)) 0) (probesOf r) (λ a. wordsWithin a (now (output .entry))) (now (output .exit)) ⌝ }
+    ensures { λ r. ⌜ RunsCall probe (lentsOver rates1 moments1 offsets1 held1 rates2 moments2 offsets2 held2) (callAt (now (bytes .entry)) 0) r (WordsIn output) ⌝ }
 {
     let call = call_of(bytes);
     let stepped = probe.step(

@@ -1,5 +1,4 @@
 -- An accepted call of both axes, put together from their halves: each axis's second half is the end of its tick, asked by the other's wish.
-use Prim.Native.Nat.{suc}
 use mathlib.Core.Path.{_≡_}
 use mathlib.Core.Bool.{Bool, true}
 use lib.Ieee.{Float, lt}
@@ -7,14 +6,14 @@ use Rattle.window.specs.Lent.{Lent, samplesOf}
 use Rattle.account.specs.Probe.{alone}
 use Rattle.closing.specs.declared.Due.{Due}
 use Rattle.closing.specs.declared.Due.the-variants.{Ahead}
-use Rattle.closing.specs.Ending.{aheadOf, dueBy, asksOf, closedDue}
+use Rattle.closing.specs.Ending.{dueBy, asksOf, closedDue}
 use Rattle.closing.proofs.Closing.{halves}
 use Rattle.identify.specs.declared.Begun.{Begun}
 use Rattle.identify.specs.declared.IdentifyProbe.{IdentifyProbe}
-use Rattle.identify.specs.Seen.{begunBy, storedIn, nextProbe, tickedProbe}
+use Rattle.identify.specs.Seen.{begunBy, storedIn, tickedProbe}
 use Rattle.two_axis.specs.Axes.{Axis, first, second, TwoCall}
 use Rattle.two_axis_probe.specs.declared.TwoStepped.the-variants.{Offsets}
-use Rattle.two_axis_probe.specs.Stepped.{Structs, Lents, wishIn, tickedAxis, twoTicked}
+use Rattle.two_axis_probe.specs.Stepped.{Structs, Lents, tickEnded, tickAhead, wishIn, tickedAxis, twoTicked}
 
 -- what is so of each axis is so of both
 pub by-axis : (P : Axis → Type 0) → P first → P second → (x : Axis) → P x
@@ -29,8 +28,7 @@ module _ (e : Float) (p : IdentifyProbe) (l : Lent) (dt rate moment : Float) (b 
   wished = rw (hd, hk, hb)
 
   pub leaves : (asked : Bool)
-      → nextProbe (suc (p .ticks)) (b .window) (closedDue d asked (b .«now_s») (b .window) (p .«duration_s») (p .noisy) (b .sweep) (k .rates) (k .moments))
-      ≡ tickedProbe e p l (record { dt = dt; rate = rate; moment = moment; asked = asked })
+      → tickEnded p b d asked (k .rates) (k .moments) ≡ tickedProbe e p l (record { dt = dt; rate = rate; moment = moment; asked = asked })
   unfolding tickedProbe storedIn
   leaves asked =
       rw (hd, halves (b .«now_s») (p .«duration_s») (p .noisy) (b .sweep) (b .window) (k .rates) (k .moments) (k .offsets) (k .marks) asked, hb)
@@ -39,8 +37,7 @@ module _ (e : Float) (p : IdentifyProbe) (l : Lent) (dt rate moment : Float) (b 
 -- with its end time ahead an axis runs on, whatever the other asks
 pub runs-on : (e : Float) (p : IdentifyProbe) (l : Lent) (dt rate moment : Float) (b : Begun) (k : Lent)
     → b ≡ begunBy e p dt → k ≡ storedIn e p l (alone dt rate moment) → lt (b .«now_s») (p .«duration_s») ≡ true → (asked : Bool)
-    → nextProbe (suc (p .ticks)) (b .window) (aheadOf (b .«now_s») (p .«duration_s») (p .noisy) (b .sweep))
-    ≡ tickedProbe e p l (record { dt = dt; rate = rate; moment = moment; asked = asked })
+    → tickAhead p b ≡ tickedProbe e p l (record { dt = dt; rate = rate; moment = moment; asked = asked })
 unfolding dueBy closedDue
 runs-on e p l dt rate moment b k hb hk below asked = leaves e p l dt rate moment b k Ahead hb hk (rw below) asked
 

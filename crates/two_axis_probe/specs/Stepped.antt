@@ -4,15 +4,18 @@ use denote.Triple.Both.{Both}
 use mathlib.Core.Path.{_≡_}
 use mathlib.Core.Bool.{Bool, true, false}
 use mathlib.Core.Option.{Option, none, some}
+use mathlib.Core.List.{List}
 use lib.Ieee.{Float, lt}
 use Rattle.float.specs.Values.{zero32}
 use Rattle.window.specs.Lent.{Lent, Borrowed, atEntry, atExit, samplesOf}
 use Rattle.account.specs.declared.IdentifyConfig.{IdentifyConfig}
 use Rattle.account.specs.Rules.{refusal}
 use Rattle.account.specs.Probe.{Call, Reply, offset, refused, clock}
-use Rattle.closing.specs.Ending.{dueBy, asksOf}
+use Rattle.closing.specs.declared.Due.{Due}
+use Rattle.closing.specs.Ending.{aheadOf, dueBy, asksOf, closedDue}
+use Rattle.identify.specs.declared.Begun.{Begun}
 use Rattle.identify.specs.declared.IdentifyProbe.{IdentifyProbe}
-use Rattle.identify.specs.Seen.{seen, freshProbeAt, begunBy, storedIn, tickedProbe}
+use Rattle.identify.specs.Seen.{seen, freshProbeAt, begunBy, storedIn, nextProbe, tickedProbe}
 use Rattle.two_axis.specs.Axes.{Axis, first, second, other, axes, TwoCall, callOf}
 use Rattle.two_axis.specs.Probes.{Probes}
 use Rattle.two_axis_probe.specs.declared.TwoAxisProbe.{TwoAxisProbe}
@@ -50,6 +53,14 @@ freshTwoAxis c = record { first = freshProbeAt true c; second = freshProbeAt fal
 pub record TwoAnswer : Type 0 where
   pub result : TwoStepped
   pub lent : Lents
+
+-- the second half of an axis's call, whose first half is b: with what its window is found to be and the other axis's wish; and with the end time still ahead
+abbrev pub tickEnded : IdentifyProbe → Begun → Due → Bool → (rates moments : List Float) → IdentifyProbe
+tickEnded p b d asked rates moments =
+    nextProbe (suc (p .ticks)) (b .window) (closedDue d asked (b .«now_s») (b .window) (p .«duration_s») (p .noisy) (b .sweep) rates moments)
+
+abbrev pub tickAhead : IdentifyProbe → Begun → IdentifyProbe
+tickAhead p b = nextProbe (suc (p .ticks)) (b .window) (aheadOf (b .«now_s») (p .«duration_s») (p .noisy) (b .sweep))
 
 -- a call over these arrays answers r and leaves them as this answer has them, axis by axis
 abbrev pub AnswersTwo : Both Lents Lents → (Lents → TwoAnswer) → TwoStepped → Type 0

@@ -1,12 +1,10 @@
 // The probe of two axes: two probes that are stepped together, and share their extension.
 ghost use mathlib.Core.Path.{_≡_};
-ghost use Prim.Native.Nat.{suc, _<_};
+ghost use Prim.Native.Nat.{_<_};
 ghost use Rattle.account.specs.Rules.{refusal};
 ghost use Rattle.account.specs.Probe.{clock};
-ghost use Rattle.closing.specs.Ending.{aheadOf, closedDue};
-ghost use Rattle.identify.specs.Seen.{nextProbe};
 ghost use Rattle.two_axis.specs.Axes.{axes, twoCall};
-ghost use Rattle.two_axis_probe.specs.Stepped.{probesOf, freshTwoAxis, eitherNumber, lentsOver, AnswersTwo, twoTicked, twoSteppedBy};
+ghost use Rattle.two_axis_probe.specs.Stepped.{probesOf, freshTwoAxis, eitherNumber, lentsOver, tickEnded, tickAhead, AnswersTwo, twoTicked, twoSteppedBy};
 use account::IdentifyConfig;
 use closing::Due;
 use identify::Begun;
@@ -58,7 +56,7 @@ fn end_tick(
     moments: &[f32; 2048],
 ) -> IdentifyProbe
     requires { ⌜ probe .ticks < 16777216 ⌝ }
-    ensures { λ r. ⌜ r ≡ nextProbe (suc (probe .ticks)) (begun .window) (closedDue due asked (begun .«now_s») (begun .window) (probe .«duration_s») (probe .noisy) (begun .sweep) (now (rates .entry)) (now (moments .entry))) ⌝ }
+    ensures { λ r. ⌜ r ≡ tickEnded probe begun due asked (now (rates .entry)) (now (moments .entry)) ⌝ }
 {
     let window = begun.window;
     let noisy = probe.noisy;
@@ -80,7 +78,7 @@ fn end_tick(
 // The same with the end time still ahead.
 fn run_on(probe: IdentifyProbe, begun: Begun) -> IdentifyProbe
     requires { ⌜ probe .ticks < 16777216 ⌝ }
-    ensures { λ r. ⌜ r ≡ nextProbe (suc (probe .ticks)) (begun .window) (aheadOf (begun .«now_s») (probe .«duration_s») (probe .noisy) (begun .sweep)) ⌝ }
+    ensures { λ r. ⌜ r ≡ tickAhead probe begun ⌝ }
 {
     let window = begun.window;
     let noisy = probe.noisy;

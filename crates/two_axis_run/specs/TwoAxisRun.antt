@@ -1,5 +1,6 @@
 -- The byte run of two axes: 02, request five, in the form of 01's "The byte run". "All fields 32-bit, big-endian."
 use Prim.Native.Nat.{ℕ, zero, suc, _+_, _*_, _/_, _%_}
+use denote.Triple.Both.{Both}
 use mathlib.Core.Path.{_≡_}
 use mathlib.Core.Bool.{Bool, true, false, _&&_}
 use mathlib.Core.List.{List, [], _∷_, _++_}
@@ -16,6 +17,9 @@ use Rattle.byte_run.specs.ByteRun.{replyWord, onto}
 use Rattle.two_axis.specs.Axes.{Axis, first, second, TwoCall}
 use Rattle.two_axis.specs.Probes.{freshTwo, repliesTwo}
 use Rattle.two_axis.specs.Accounts.{Accounts, openedTwo, accountTwo}
+use Rattle.two_axis_probe.specs.declared.TwoAxisProbe.{TwoAxisProbe}
+use Rattle.two_axis_probe.specs.Stepped.{Lents, probesOf}
+use Rattle.two_axis_probe.specs.Held.{HoldsTwo}
 use Rattle.two_axis_report.specs.TwoReport.{reportTwo, reportsOf, reportAt, TellsSums}
 use Rattle.two_axis_calls.specs.Calls.{callAt}
 
@@ -58,6 +62,10 @@ runIf true config calls output = ran (broken (configOf config)) (configOf config
 -- "it returns 0, or the number of 1 to 5 or 9"
 unfoldable pub twoAxisRun : List ℕ → List ℕ → List ℕ → Ran
 twoAxisRun config calls output = runIf (sizedTwo config calls output) config calls output
+
+-- after the calls in these bytes the probe and its arrays hold the two accounts
+abbrev pub HoldsAfter : IdentifyConfig → List ℕ → TwoAxisProbe → Both Lents Lents → Type 0
+HoldsAfter c bytes p l = HoldsTwo c (callsOf bytes) (probesOf p) (l .exit) (accountTwo (openedTwo c) (callsOf bytes))
 
 -- the accounts of a run
 abbrev pub accountsOf : (config calls : List ℕ) → Accounts

@@ -5,11 +5,9 @@ ghost use lib.ListN.{length};
 ghost use Rattle.wire.specs.Words.{wordBytes, writtenAt};
 ghost use Rattle.window.specs.Lent.{lent, Whole};
 ghost use Rattle.byte_run.specs.ByteRun.{onto};
-ghost use Rattle.two_axis.specs.Accounts.{openedTwo, accountTwo};
-ghost use Rattle.two_axis_probe.specs.Stepped.{probesOf, lentsOver};
-ghost use Rattle.two_axis_probe.specs.Held.{HoldsTwo};
-ghost use Rattle.two_axis_calls.specs.Calls.{callAt, answerWords, RunsCall};
-ghost use Rattle.two_axis_run.specs.TwoAxisRun.{callsOf, wordsOf, written, sizedTwo, twoAxisRun, TellsDelays, TellsModels, TellsSumsOf};
+ghost use Rattle.two_axis_probe.specs.Stepped.{lentsOver};
+ghost use Rattle.two_axis_calls.specs.Calls.{callAt, WordsAt, RunsCall};
+ghost use Rattle.two_axis_run.specs.TwoAxisRun.{callsOf, HoldsAfter, wordsOf, written, sizedTwo, twoAxisRun, TellsDelays, TellsModels, TellsSumsOf};
 use account::IdentifyConfig;
 use two_axis_probe::TwoAxisProbe;
 
@@ -36,7 +34,7 @@ fn run_call(
     output: &mut [u8],
 ) -> TwoAxisProbe
     requires { ⌜ (20 * k + 20 ≤ length (now calls)) × (77 + 8 * k + 8 ≤ length (now output)) ⌝ }
-    ensures { λ r. ⌜ RunsCall (probesOf probe) (lentsOver rates1 moments1 offsets1 held1 rates2 moments2 offsets2 held2) (callAt (now (calls .entry)) (20 * k)) (probesOf r) (λ a. writtenAt (77 + 8 * k) (wordBytes (answerWords a)) (now (output .entry))) (now (output .exit)) ⌝ }
+    ensures { λ r. ⌜ RunsCall probe (lentsOver rates1 moments1 offsets1 held1 rates2 moments2 offsets2 held2) (callAt (now (calls .entry)) (20 * k)) r (WordsAt (77 + 8 * k) output) ⌝ }
 {
     let from = 20 * k;
     let bytes = &calls[from..from + 20];
@@ -71,7 +69,7 @@ fn run_calls(
     output: &mut [u8],
 ) -> TwoAxisProbe
     requires { ⌜ (77 + 8 * (length (now calls) / 20) ≤ length (now output)) × Whole (lent (now rates1) (now moments1) (now offsets1) (now held1)) × Whole (lent (now rates2) (now moments2) (now offsets2) (now held2)) ⌝ }
-    ensures accounted { λ r. ⌜ HoldsTwo config (callsOf (now (calls .entry))) (probesOf r) (lentsOver rates1 moments1 offsets1 held1 rates2 moments2 offsets2 held2 .exit) (accountTwo (openedTwo config) (callsOf (now (calls .entry)))) ⌝ }
+    ensures accounted { λ r. ⌜ HoldsAfter config (now (calls .entry)) r (lentsOver rates1 moments1 offsets1 held1 rates2 moments2 offsets2 held2) ⌝ }
     ensures output { λ r. ⌜ now (output .exit) ≡ writtenAt 77 (wordBytes (wordsOf config (callsOf (now (calls .entry))))) (now (output .entry)) ⌝ }
 {
     let mut p = TwoAxisProbe::fresh(config);

@@ -13,10 +13,10 @@ use Rattle.marks.specs.Marks.{marksBy}
 use Rattle.two_axis.specs.Axes.{Axis, first, second, axes}
 use Rattle.two_axis_probe.proofs.Ticking.{by-axis}
 use Rattle.two_axis_report.specs.TwoReport.{reportTwo}
-use Rattle.live_pair.proofs.Flying.{reports}
+use Rattle.pair.proofs.Flying.{reports}
 use borrow.Author.Needs.{needs}
-use Rattle.live_pair.proofs.report.Statement.{statement}
-use Rattle.live_pair.proofs.report.Tie as tie
+use Rattle.pair.proofs.identify_live_pair_report.Statement.{statement}
+use Rattle.pair.proofs.identify_live_pair_report.Tie as tie
 
 probe-of-requires : tie.Need-probe-of-requires
 probe-of-requires c κs = search needs
@@ -65,8 +65,8 @@ returns c =
       λ g calls answers l f er em. written (λ x. l x .moments) (λ x. l x .offsets) ∙ ap (λ (bytes : List ℕ). writtenWithin 0 bytes (a .output .now)) (reports s l rates marks f er em),
     )
 
-pub report-spec : {M : Type 1} → statement M
-report-spec =
+pub identify-live-pair-report-spec : {M : Type 1} → statement M
+identify-live-pair-report-spec =
     tie.close
     (tie.spec
     probe-of-requires

@@ -3,11 +3,11 @@ use mathlib.Core.Path.{_≡_, sym, _∙_}
 use mathlib.Core.Bool.{true, false}
 use Rattle.probe_words.specs.Layout.{Scalars, scalars, probeIn}
 use Rattle.two_axis.specs.Axes.{Axis, first, second, axes}
-use Rattle.live_pair.specs.Pair.{accepted}
-use Rattle.live_pair.proofs.Marks.{by-both, by-none, by-one, kept}
+use Rattle.pair.specs.Pair.{accepted}
+use Rattle.pair.proofs.Marks.{by-both, by-none, by-one, kept}
 use borrow.Author.Needs.{needs}
-use Rattle.live_pair.proofs.ready.Statement.{statement}
-use Rattle.live_pair.proofs.ready.Tie as tie
+use Rattle.pair.proofs.identify_live_pair_ready.Statement.{statement}
+use Rattle.pair.proofs.identify_live_pair_ready.Tie as tie
 
 probe-of-requires : tie.Need-probe-of-requires
 probe-of-requires c κs = search needs
@@ -60,8 +60,8 @@ returns-3 c =
     let off1 : accepted (probeIn (s first)) (a .dt) ≡ false = rw (p1 .probe-of .ensures .0) at (sym (c .before .accepts .ensures) ∙ c .if1 .left) in
     (by-none s (a .dt) off1 first _, (by-none s (a .dt) off1 second _, (kept _, kept _)))
 
-pub ready-spec : {M : Type 1} → statement M
-ready-spec =
+pub identify-live-pair-ready-spec : {M : Type 1} → statement M
+identify-live-pair-ready-spec =
     tie.close
     (tie.spec
     probe-of-requires

@@ -9,7 +9,7 @@ use Rattle.probe_words.specs.Layout.{Scalars, probeIn}
 use Rattle.live_probe.specs.Live.{readied}
 use Rattle.marks.specs.Marks.{KeepsMarks}
 use Rattle.two_axis.specs.Axes.{Axis, first, second}
-use Rattle.live_pair.specs.Pair.{acceptedBy, accepted, pairReadied}
+use Rattle.pair.specs.Pair.{acceptedBy, accepted, pairReadied}
 
 pub turned : (n : ℕ) (time : Option Float) → (n ≡ 0 → ⊥) → false ≡ acceptedBy n time
 unfolding acceptedBy

@@ -30,8 +30,8 @@ use Rattle.two_axis_probe.proofs.Flying.{begins, holds, replies-on, goes-on}
 use Rattle.two_axis_report.specs.TwoReport.{reportTwo, reportsOf}
 use Rattle.two_axis_report.proofs.Reported.{reported-two}
 use Rattle.two_axis_run.specs.TwoAxisRun.{inTurn, written}
-use Rattle.live_pair.specs.Pair.{Pair, PairOpening, PairFlight, pairProbes, pairLents, pairOpening, pairOpenBy, pairOpen, scalarsAfterTwo, offsetAfterTwo, pairStep}
-use Rattle.live_pair.specs.Flown.{PairFlown, by-open, by-step, PairFlies}
+use Rattle.pair.specs.Pair.{Pair, PairOpening, PairFlight, pairProbes, pairLents, pairOpening, pairOpenBy, pairOpen, scalarsAfterTwo, offsetAfterTwo, pairStep}
+use Rattle.pair.specs.Flown.{PairFlown, by-open, by-step, PairFlies}
 
 -- an opening that answers 0 wrote the fresh probes
 opened-fresh : (b : ℕ) (c : IdentifyConfig) (s : Axis → Scalars) → pairOpenBy b c s .result ≡ 0 → (x : Axis) → pairOpenBy b c s .scalars x ≡ scalarsOf (probesOf (freshTwoAxis c) x)

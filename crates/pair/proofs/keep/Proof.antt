@@ -3,10 +3,10 @@ use mathlib.Core.Path.{refl}
 use Rattle.account.specs.Probe.{number}
 use Rattle.two_axis_probe.specs.Stepped.{replyTwo}
 use Rattle.two_axis_probe.proofs.Ticking.{by-axis}
-use Rattle.live_pair.specs.Pair.{scalarsAfterTwo, offsetAfterTwo}
+use Rattle.pair.specs.Pair.{scalarsAfterTwo, offsetAfterTwo}
 use borrow.Author.Needs.{needs}
-use Rattle.live_pair.proofs.keep.Statement.{statement}
-use Rattle.live_pair.proofs.keep.Tie as tie
+use Rattle.pair.proofs.keep.Statement.{statement}
+use Rattle.pair.proofs.keep.Tie as tie
 
 enum-known-stepped : tie.Need-enum-known-stepped
 enum-known-stepped c = search needs

@@ -7,13 +7,13 @@ use Rattle.live_probe.specs.Live.{live}
 use Rattle.two_axis.specs.Axes.{Axis, first, second, axes, twoCall}
 use Rattle.two_axis_probe.specs.Stepped.{Lents, probesOf}
 use Rattle.two_axis_probe.proofs.Ticking.{by-axis}
-use Rattle.live_pair.specs.Pair.{Pair, pairProbes, pairLents}
-use Rattle.live_pair.specs.Flown.{by-step}
-use Rattle.live_pair.proofs.Stepping.{stepped}
-use Rattle.live_pair.proofs.Flying.{flies}
+use Rattle.pair.specs.Pair.{Pair, pairProbes, pairLents}
+use Rattle.pair.specs.Flown.{by-step}
+use Rattle.pair.proofs.Stepping.{stepped}
+use Rattle.pair.proofs.Flying.{flies}
 use borrow.Author.Needs.{needs}
-use Rattle.live_pair.proofs.step.Statement.{statement}
-use Rattle.live_pair.proofs.step.Tie as tie
+use Rattle.pair.proofs.identify_live_pair_step.Statement.{statement}
+use Rattle.pair.proofs.identify_live_pair_step.Tie as tie
 
 probe-of-requires : tie.Need-probe-of-requires
 probe-of-requires c κs = search needs
@@ -46,6 +46,6 @@ returns c =
     let is = stepped k y found _ lents _ _ _ _ _ _ _ read whose kept (st .step .ensures .0) (st .step .ensures .1) (e .0) (e .1 .0) (e .1 .1 .0) (e .1 .1 .1) in
     (is, λ g calls answers f. flies (by-step {k = k} found y f is))
 
-pub step-spec : {M : Type 1} → statement M
-step-spec =
+pub identify-live-pair-step-spec : {M : Type 1} → statement M
+identify-live-pair-step-spec =
     tie.close (tie.spec probe-of-requires probe-of-requires-2 step-requires keep-requires returns)

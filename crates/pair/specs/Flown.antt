@@ -23,7 +23,7 @@ use Rattle.two_axis_probe.specs.Stepped.{seenTwo}
 use Rattle.two_axis_probe.specs.Held.{HoldsTwo}
 use Rattle.two_axis_report.specs.TwoReport.{reportTwo}
 use Rattle.two_axis_run.specs.TwoAxisRun.{inTurn, written}
-use Rattle.live_pair.specs.Pair.{Pair, pairProbes, pairLents, pairOpening, pairOpen, pairFlight, pairStep}
+use Rattle.pair.specs.Pair.{Pair, pairProbes, pairLents, pairOpening, pairOpen, pairFlight, pairStep}
 
 -- Opened from c and stepped with these calls, in this order, with nothing written in between: each by what its contract ensures; and what the calls answered for each axis.
 pub data PairFlown (c : IdentifyConfig) : List TwoCall → (Axis → List Reply) → Pair → Type 0 where

@@ -5,10 +5,10 @@ use Rattle.account.specs.Rules.{refusal}
 use Rattle.account.specs.Probe.{clock}
 use Rattle.rules.specs.Clock.{timeOf}
 use Rattle.identify.proofs.Stepping.{clocks}
-use Rattle.live_pair.proofs.Marks.{turned, stopped, runs}
+use Rattle.pair.proofs.Marks.{turned, stopped, runs}
 use borrow.Author.Needs.{needs}
-use Rattle.live_pair.proofs.accepts.Statement.{statement}
-use Rattle.live_pair.proofs.accepts.Tie as tie
+use Rattle.pair.proofs.accepts.Statement.{statement}
+use Rattle.pair.proofs.accepts.Tie as tie
 
 clock-of-requires : tie.Need-clock-of-requires
 clock-of-requires c κs = search needs

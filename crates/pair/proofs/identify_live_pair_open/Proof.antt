@@ -7,11 +7,11 @@ use Rattle.two_axis.specs.Axes.{Axis, axes}
 use Rattle.two_axis_probe.specs.declared.TwoAxisProbe.{TwoAxisProbe}
 use Rattle.two_axis_probe.specs.Stepped.{probesOf, freshTwoAxis}
 use Rattle.two_axis_probe.proofs.Ticking.{by-axis}
-use Rattle.live_pair.proofs.Stepping.{unknown, turned-away, opens}
-use Rattle.live_pair.proofs.Flying.{begun}
+use Rattle.pair.proofs.Stepping.{unknown, turned-away, opens}
+use Rattle.pair.proofs.Flying.{begun}
 use borrow.Author.Needs.{needs}
-use Rattle.live_pair.proofs.open.Statement.{statement}
-use Rattle.live_pair.proofs.open.Tie as tie
+use Rattle.pair.proofs.identify_live_pair_open.Statement.{statement}
+use Rattle.pair.proofs.identify_live_pair_open.Tie as tie
 
 returns : tie.Need-returns
 returns c =
@@ -62,8 +62,8 @@ returns-3 c =
     let is = opens g s (a .options) (no .before .if1 .left) (v .validate .result) number (fr .before .if2 .left) _ left in
     (is, begun (a .options) g s _ 0 is)
 
-pub open-spec : {M : Type 1} → statement M
-open-spec =
+pub identify-live-pair-open-spec : {M : Type 1} → statement M
+identify-live-pair-open-spec =
     tie.close
     (tie.spec
     returns

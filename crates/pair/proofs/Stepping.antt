@@ -11,7 +11,7 @@ use Rattle.two_axis.specs.Axes.{Axis, first, second, axes, TwoCall}
 use Rattle.two_axis_probe.specs.declared.TwoStepped.{TwoStepped}
 use Rattle.two_axis_probe.specs.Stepped.{Structs, Lents, TwoAnswer, probesOf, freshTwoAxis, twoSteppedBy, replyTwo}
 use Rattle.two_axis_probe.proofs.Ticking.{by-axis}
-use Rattle.live_pair.specs.Pair.{Pair, pairProbes, pairLents, pairOpening, pairOpenBy, pairOpen, scalarsAfterTwo, offsetAfterTwo, pairFlight, pairStep}
+use Rattle.pair.specs.Pair.{Pair, pairProbes, pairLents, pairOpening, pairOpenBy, pairOpen, scalarsAfterTwo, offsetAfterTwo, pairFlight, pairStep}
 
 -- an opening
 module _ (c : IdentifyConfig) (s : Axis → Scalars) where

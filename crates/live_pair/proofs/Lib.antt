@@ -1,3 +1,0 @@
-pub mod Stepping
-pub mod Flying
-pub mod Marks
