@@ -1,6 +1,6 @@
 -- "Its answer lies in 0 to 1": exp of an x ≤ 0. From -104 on x/1024 lies from -1 to 0, so each term of the series is 1 less a part of 1,
 -- and squaring and narrowing stay in 0 to 1.
-use Rattle.std.proofs.Common.{◌≡◌, ℕ, zero, suc, ◌-◌, ◌*◌, ◌^◌, ◌<◌, ◌≤◌, Bool, true, false, cond, not, T, ℤ, pos, negsuc, sym, refl, ap, ◌∙◌, subst, true≢false, zero-lt-suc, mul-pos, pow-suc, arith, lit<, lit≤, eqb→eq, pow_pos, ltb-false, le-ltb, ne_eqb}
+use Rattle.std.proofs.Common.{◌≡◌, ℕ, zero, suc, ◌-◌, ◌*◌, ◌^◌, ◌<◌, ◌≤◌, Bool, true, false, cond, T, ℤ, pos, negsuc, sym, refl, ap, ◌∙◌, subst, true≢false, zero-lt-suc, mul-pos, pow-suc, arith, lit<, lit≤, eqb→eq, pow_pos, ltb-false, le-ltb, ne_eqb}
 use lib.Ieee.{Float, nan, inf, fin, binary32, binary64, up, down, of_bits, of_int, add, mul, div, lt, le, fits}
 use lib.Ieee.Exact.{HasValue}
 use lib.Ieee.Fits.{up_pos, down_pos}

@@ -1,5 +1,5 @@
 -- Series of floats by place, sums in order, and lists that are filled entry by entry. What stands past the end of a list reads as NaN.
-use Rattle.std.specs.Prelude.{ℕ, zero, suc, List, set, from_bits, slice_index_or, slice_set, Float}
+use Rattle.std.specs.Prelude.{ℕ, zero, suc, List, from_bits, slice_index_or, slice_set, Float}
 use Rattle.std.specs.Float.{Format, nan}
 use Rattle.std.specs.Float.Ieee.{add, mul}
 

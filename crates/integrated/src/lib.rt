@@ -1,7 +1,7 @@
 // The integrated fit: for a noisy window, a gain at each lag and each delay in half ticks, and a search between the lags.
 #![tactic(auto)]
 
-ghost use Rattle.std.specs.Prelude.{◌≡◌, ◌-◌, ◌≤◌, min, length, take, replicate, slice_index_or};
+ghost use Rattle.std.specs.Prelude.{◌≡◌, ◌-◌, ◌≤◌, min, take, replicate, slice_index_or};
 ghost use Rattle.float.specs.Series.{at, fill};
 ghost use Rattle.delay.specs.declared.Entry.TheVariants as entry;
 ghost use Rattle.delay.specs.Tie.{entry_count};

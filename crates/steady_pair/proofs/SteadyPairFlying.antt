@@ -28,7 +28,7 @@ use Rattle.steady_probe.specs.SteadyLive.{runs_in}
 use Rattle.steady_probe.specs.SteadyFlown.{start}
 use Rattle.steady_probe.proofs.SteadyFlying.{accepted_above, number_by}
 use Rattle.live_pair.specs.Pair.{Pair, PairOpening, pair_opening, pair_open, PairFlight, pair_flight, pair_step}
-use Rattle.live_pair.specs.Flown.{PairFlown, PairFlies}
+use Rattle.live_pair.specs.Flown.{PairFlown}
 use Rattle.live_pair.specs.Flown as plain
 use Rattle.live_pair.proofs.Flying.{stands, flies, answers_on}
 use Rattle.steady_pair.specs.SteadyPair.{SteadyPairOpening, steady_pair_opening, start_pair_in, steady_pair_open, pair_runs, SteadyPairFlight, steady_pair_flight, kept_pair_step, steady_pair_step}

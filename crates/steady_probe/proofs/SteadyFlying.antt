@@ -23,7 +23,7 @@ use Rattle.steady.proofs.Kept.{band_kept}
 use Rattle.steady.proofs.Steady.{probe_not_ten, both, steady_accounted}
 use Rattle.probe_words.specs.Layout.{Scalars}
 use Rattle.live_probe.specs.Live.{Live, live, live_probe, Opening, opening, live_open, Flight, flight, live_step}
-use Rattle.live_probe.specs.Flown.{reply_by, Flown, Flies}
+use Rattle.live_probe.specs.Flown.{reply_by, Flown}
 use Rattle.live_probe.specs.Flown as plain
 use Rattle.live_probe.proofs.Flying.{made, flies, replies_so}
 use Rattle.steady_probe.specs.SteadyLive.{SteadyOpening, steady_opening, start_in, steady_open, runs_in, SteadyFlight, steady_flight, kept_step, steady_step}

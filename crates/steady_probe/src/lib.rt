@@ -7,7 +7,6 @@ ghost use Rattle.account.specs.Probe.{clock};
 ghost use Rattle.identify.specs.Seen.{call};
 ghost use Rattle.probe_words.specs.Layout.{scalars, probe_in};
 ghost use Rattle.steady.specs.Band.{turns_back};
-ghost use Rattle.steady.specs.Kept.{band_in};
 ghost use Rattle.steady.specs.Steady.{is_running};
 ghost use Rattle.live_probe.specs.Live.{config_by};
 ghost use Rattle.steady_probe.specs.SteadyLive.{scalars_over, live_over, SteadyOpened, runs_in, SteadyStepped, steady_readied};

@@ -93,16 +93,16 @@ const LIMIT: usize = 786_432;
 // A file as it is replayed: how many of its bytes are left, and how many of the records before them agree. A file is whole
 // where it has records, it has fewer bytes than the limit, and its last record has all of its bytes.
 #[derive(Drop)]
-struct Records {
+pub struct Records {
     whole: bool,
-    left: usize,
+    pub left: usize,
     records: u64,
     agree: u64,
 }
 
 impl Records {
     // A file of some bytes, before its first record is replayed.
-    fn new(bytes: &[u8]) -> Self
+    pub fn new(bytes: &[u8]) -> Self
         ensures { result ≡ started (length bytes.now) }
     {
         let left = bytes.len();
@@ -116,7 +116,7 @@ impl Records {
 
     // With the next record replayed, of `size` bytes. One that has no bytes, or more than are left, ends the replay.
     // The counts are modulo 2^64.
-    fn with(self, size: usize, agreed: bool) -> Self
+    pub fn with(self, size: usize, agreed: bool) -> Self
         ensures next { result ≡ next_of self size agreed }
         ensures less { result.left ≤ self.left - 1 }
     {
@@ -149,7 +149,7 @@ impl Records {
 }
 
 // The last n bytes, from the next record on; all where there are fewer.
-fn rest(s: &[u8], n: usize) -> &[u8]
+pub fn rest(s: &[u8], n: usize) -> &[u8]
     ensures { result.now ≡ drop (length s.now - n) s.now }
 {
     if s.len() < n {

@@ -2,7 +2,7 @@
 // four bytes that do not fit are not written.
 #![tactic(auto)]
 
-ghost use Rattle.std.specs.Prelude.{◌≡◌, ◌+◌, ◌*◌, ◌-◌, length, get_or};
+ghost use Rattle.std.specs.Prelude.{◌≡◌, ◌+◌, ◌*◌, ◌-◌, get_or};
 ghost use Rattle.wire.specs.Words.{bytes_of, word_of, word_at, float_at, written_within};
 
 // How many bytes of a slice of `len` stand from place `at` on.

@@ -1,5 +1,5 @@
 -- `float::difference` meets its contract: what is left is a whole number that f64 holds, and below 0 its sign is turned.
-use Rattle.std.proofs.Common.{ℕ, ◌-◌, ◌^◌, ◌<◌, T, pos, arith, le→leb, rules}
+use Rattle.std.proofs.Common.{ℕ, ◌-◌, ◌^◌, ◌<◌, T, pos, arith, le→leb}
 use lib.Ieee.{binary64, in_float}
 use Rattle.float.proofs.WholeNumbers.{minus_below, minus_above}
 use Rattle.float.proofs.difference.Goals as goal

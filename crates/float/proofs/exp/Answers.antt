@@ -1,6 +1,6 @@
 -- `float::exp` meets its contract: widening is exact, and on either side of -104 the code is the definition's expression,
 -- of which `exp_unit` is the bound.
-use Rattle.std.proofs.Common.{◌≡◌, true, false, T, sym, ap, ◌∙◌, subst, rules}
+use Rattle.std.proofs.Common.{◌≡◌, true, false, T, sym, ap, ◌∙◌, subst}
 use lib.Ieee.{Float, binary64, of_bits, neg, div, lt, le}
 use Rattle.float.specs.Values.{zero32}
 use Rattle.float.specs.Narrow.{narrowed}

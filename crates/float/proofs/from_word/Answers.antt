@@ -1,5 +1,5 @@
 -- `float::from_word` meets its contract: its test tells the NaN patterns from the others, which are read as they are.
-use Rattle.std.proofs.Common.{sym, refl, ◌∙◌, arith, rules}
+use Rattle.std.proofs.Common.{sym, ◌∙◌, arith}
 use lib.Ieee.{binary32}
 use Rattle.float.proofs.Nan.{nan_word, no_nan_word}
 use Rattle.float.proofs.from_word.Goals as goal

@@ -1,5 +1,5 @@
 -- `float::log` meets its contract, a case for each of its returns: x is what its own bits say, and `LogFields` has the logarithm for each exponent's field.
-use Rattle.std.proofs.Common.{◌≡◌, ℕ, ◌/◌, ◌%◌, ◌^◌, ◌<◌, false, not, T, ◌⊎◌, sym, ap, ◌∙◌, subst, ⊎_elim, arith, rules}
+use Rattle.std.proofs.Common.{◌≡◌, ℕ, ◌/◌, ◌%◌, ◌^◌, ◌<◌, false, not, T, sym, ap, ◌∙◌, subst, ⊎_elim, arith}
 use lib.Ieee.{Float, binary32, of_bits, to_bits, of_fields, fits, is_nan, neg, div}
 use lib.Ieee.Bits.{of_bits-to_bits, to_bits-lt}
 use Rattle.float.specs.Log.{log_of}

@@ -1,5 +1,5 @@
 -- `float::log_from` meets its contract: it is the definition's expression.
-use Rattle.std.proofs.Common.{ap, rules}
+use Rattle.std.proofs.Common.{ap}
 use lib.Ieee.{Float, binary64, add, mul}
 use Rattle.float.specs.Log.{ln2, two64, z_of, log_part, log_from}
 use Rattle.float.proofs.log_from.Goals as goal

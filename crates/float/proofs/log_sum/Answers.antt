@@ -1,4 +1,4 @@
-use Rattle.std.proofs.Common.{◌≡◌, ℕ, ◌-◌, ◌*◌, ◌^◌, ◌≤◌, T, pos, ap, ◌∙◌, arith, le→leb}
+use Rattle.std.proofs.Common.{◌≡◌, ℕ, ◌-◌, ◌*◌, ◌^◌, T, pos, ap, ◌∙◌, arith, le→leb}
 use lib.Ieee.{binary64, in_float}
 use Rattle.float.specs.Log.{log_sum}
 use Rattle.float.proofs.LogSteps.{sum_first, sum_next}

@@ -1,8 +1,6 @@
 -- `float::log_sum` meets its contract. The loop's invariant: `last` is the sum after j of its terms. The measure is what is left of the seven.
-use Rattle.std.proofs.Common.{◌≡◌, ℕ, ◌-◌, ◌*◌, ◌^◌, ◌≤◌, T, pos, ap, ◌∙◌, arith, le→leb}
-use lib.Ieee.{binary64, in_float}
+use Rattle.std.proofs.Common.{◌≡◌, ◌-◌, ◌≤◌}
 use Rattle.float.specs.Log.{log_sum}
-use Rattle.float.proofs.LogSteps.{sum_first, sum_next}
 use Rattle.float.proofs.log_sum.Given as goal
 
 abbrev pub invariant-loop-j : goal.invariant-loop-j

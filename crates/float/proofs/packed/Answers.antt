@@ -1,5 +1,5 @@
 -- `float::packed` meets its contract: the pattern that it writes is that of q * 2 ^ k smallest values, or the infinity's, and no NaN's.
-use Rattle.std.proofs.Common.{ℕ, Bool, true, false, not, T, sym, ap, ◌∙◌, subst, zero-add, rules}
+use Rattle.std.proofs.Common.{ℕ, Bool, true, false, not, T, sym, ap, ◌∙◌, subst, zero-add}
 use lib.Ieee.{binary32, units, of_bits, nan_bits}
 use Rattle.float.proofs.Pattern.{pattern, pattern_no_nan}
 use Rattle.float.proofs.packed.Goals as goal

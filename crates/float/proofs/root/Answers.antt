@@ -1,6 +1,6 @@
 -- `float::root` meets its contract, a case for each of its returns: x is what its own bits say, and `RootFields` has the root for each exponent's field.
 -- That it is the nearest is `nearest_root`.
-use Rattle.std.proofs.Common.{◌≡◌, ◌/◌, ◌%◌, ◌^◌, false, not, T, sym, ap, ◌∙◌, subst, rules}
+use Rattle.std.proofs.Common.{◌≡◌, ◌/◌, ◌%◌, ◌^◌, false, not, T, sym, ap, ◌∙◌, subst}
 use lib.Ieee.{Float, binary32, of_bits, to_bits, of_fields, fits, is_nan}
 use lib.Ieee.Bits.{of_bits-to_bits}
 use lib.Ieee.Positive.{positive}

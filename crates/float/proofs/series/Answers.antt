@@ -1,4 +1,4 @@
-use Rattle.std.proofs.Common.{◌≡◌, ℕ, ◌-◌, ◌^◌, ◌≤◌, T, pos, ap, ◌∙◌, arith, le→leb}
+use Rattle.std.proofs.Common.{◌≡◌, ℕ, ◌-◌, ◌^◌, T, pos, ap, ◌∙◌, arith, le→leb}
 use lib.Ieee.{binary64, in_float}
 use Rattle.float.specs.Exp.{horner}
 use Rattle.float.proofs.ExpSteps.{horner_first, horner_next}

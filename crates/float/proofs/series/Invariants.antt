@@ -1,8 +1,6 @@
 -- `float::series` meets its contract. The loop's invariant: `last` is the series after k of its terms. The measure is what is left of the eight.
-use Rattle.std.proofs.Common.{◌≡◌, ℕ, ◌-◌, ◌^◌, ◌≤◌, T, pos, ap, ◌∙◌, arith, le→leb}
-use lib.Ieee.{binary64, in_float}
+use Rattle.std.proofs.Common.{◌≡◌, ◌-◌, ◌≤◌}
 use Rattle.float.specs.Exp.{horner}
-use Rattle.float.proofs.ExpSteps.{horner_first, horner_next}
 use Rattle.float.proofs.series.Given as goal
 
 abbrev pub invariant-loop-k : goal.invariant-loop-k

@@ -1,5 +1,4 @@
-use Rattle.std.proofs.Common.{◌≡◌, ◌-◌, ◌≤◌, sym, refl, ◌∙◌, arith}
-use Rattle.float.specs.Exp.{squared}
+use Rattle.std.proofs.Common.{sym, refl, ◌∙◌, arith}
 use Rattle.float.proofs.ExpSteps.{squared_next, squared_done}
 use Rattle.float.proofs.squared_ten_times.Goals as goal
 

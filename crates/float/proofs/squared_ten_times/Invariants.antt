@@ -1,7 +1,6 @@
 -- `float::squared_ten_times` meets its contract. The loop's invariant: the squarings that are left take `power` to the answer. The measure is their number.
-use Rattle.std.proofs.Common.{◌≡◌, ◌-◌, ◌≤◌, sym, refl, ◌∙◌, arith}
+use Rattle.std.proofs.Common.{◌≡◌, ◌-◌, ◌≤◌}
 use Rattle.float.specs.Exp.{squared}
-use Rattle.float.proofs.ExpSteps.{squared_next, squared_done}
 use Rattle.float.proofs.squared_ten_times.Given as goal
 
 abbrev pub invariant-loop : goal.invariant-loop
