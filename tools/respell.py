@@ -69,8 +69,8 @@ def names(logic, code):
         found |= {piece for piece in PIECE.findall(text) if CAMEL.fullmatch(piece)}
         for declared in DECLARED.findall(text):
             found |= {piece for piece in declared.split() if DASHED.fullmatch(piece)}
-    names = found - theirs - made
-    return {name: snake(name) for name in names} | OTHERWISE if names else {}
+    new = {name: snake(name) for name in found - theirs - made}
+    return new | {name: other for name, other in OTHERWISE.items() if name in new or name in new.values()}
 
 
 def told(piece, new, said, page):

@@ -1,17 +1,17 @@
 // The functions of a probe in flight that the static library exports.
 #![tactic(auto)]
 
-ghost use Rattle.std.specs.Prelude.{◌≡◌};
+ghost use Rattle.std.specs.Prelude.{◌≡◌, ◌≢◌};
 ghost use Rattle.marks.specs.Marks.{KeepsMarks};
 ghost use Rattle.identify.specs.Seen.{call};
 ghost use Rattle.report.specs.Report.{floats_of};
 ghost use Rattle.probe_words.specs.Layout.{scalars, probe_in};
 ghost use Rattle.live_status.specs.Status.{status_in, status_numbers, status_plain};
-ghost use Rattle.live_probe.specs.Live.{config_by};
+ghost use Rattle.live_probe.specs.Live.{config_by, readied};
 ghost use Rattle.live.specs.Delay.{TellsDelay};
 ghost use Rattle.live_probe.specs.Flown.{WritesReport, ReportsFlight};
 ghost use Rattle.steady_probe.specs.SteadyLive.{scalars_over, live_over, SteadyOpened, SteadyStepped, steady_readied};
-ghost use Rattle.steady_probe.specs.SteadyFlown.{OpensSteady, SteadyFliesOn};
+ghost use Rattle.steady_probe.specs.SteadyFlown.{OpensSteady, OpensPlain, SteadyFliesOn, StepsPlain};
 
 // Opens a probe in its scalars, plain or, with an option of 1, as steady; the arrays of samples, which the other calls take, may hold anything.
 // It answers 0; 9 where an option has no meaning; or the number of the first of the rules 1 to 5 that is broken. On a number nothing is written.
@@ -31,6 +31,7 @@ pub extern "C" fn identify_live_open(
 ) -> u32
     ensures opening { SteadyOpened options (config_by amplitude duration_s washout_tc_s extension extension_amplitude extension_duration_s) (scalars_over words floats) steady first_dt_s result }
     ensures flown { OpensSteady (config_by amplitude duration_s washout_tc_s extension extension_amplitude extension_duration_s) (scalars_over words floats) steady first_dt_s result }
+    ensures plain { options ≢ 1 → OpensPlain options (config_by amplitude duration_s washout_tc_s extension extension_amplitude extension_duration_s) (scalars_over words floats) result }
 {
     steady_probe::open(
         words,
@@ -59,6 +60,7 @@ pub extern "C" fn identify_live_ready(
 )
     ensures bytes { marks.new ≡ steady_readied steady first_dt_s (probe_in (scalars words.now floats.now)) dt marks.old }
     ensures marks { KeepsMarks marks.old marks.new }
+    ensures plain { steady ≡ 0 → marks.new ≡ readied (probe_in (scalars words.now floats.now)) dt marks.old }
 {
     steady_probe::ready(words, floats, steady, first_dt_s, marks, dt);
 }
@@ -82,6 +84,7 @@ pub extern "C" fn identify_live_step(
 ) -> u32
     ensures flight { SteadyStepped steady first_dt_s (live_over words floats rates moments offsets held) (call dt rate moment) offset result }
     ensures flown { SteadyFliesOn steady first_dt_s (live_over words floats rates moments offsets held) (call dt rate moment) offset result }
+    ensures plain { steady ≡ 0 → StepsPlain first_dt_s (live_over words floats rates moments offsets held) (call dt rate moment) offset result }
 {
     steady_probe::step(
         words, floats, steady, first_dt_s, rates, moments, offsets, held, dt, rate, moment, offset,

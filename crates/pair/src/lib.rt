@@ -1,17 +1,17 @@
 // The functions of a pair in flight that the static library exports.
 #![tactic(auto)]
 
-ghost use Rattle.std.specs.Prelude.{◌≡◌};
+ghost use Rattle.std.specs.Prelude.{◌≡◌, ◌≢◌};
 ghost use Rattle.marks.specs.Marks.{KeepsMarks};
 ghost use Rattle.report.specs.Report.{floats_of};
 ghost use Rattle.probe_words.specs.Layout.{scalars};
 ghost use Rattle.live_status.specs.Status.{status_in, status_numbers, status_plain};
 ghost use Rattle.two_axis.specs.Axes.{first, second, two_call};
 ghost use Rattle.live_probe.specs.Live.{config_by};
-ghost use Rattle.live_pair.specs.Pair.{scalars_over, pair_over, offsets_over, scalars_read, both_read};
+ghost use Rattle.live_pair.specs.Pair.{scalars_over, pair_over, offsets_over, scalars_read, pair_readied, both_read};
 ghost use Rattle.live_pair.specs.Flown.{WritesPairReport, ReportsPair, TellsAxisDelay};
 ghost use Rattle.steady_pair.specs.SteadyPair.{SteadyPairOpened, SteadyPairStepped, steady_pair_readied};
-ghost use Rattle.steady_pair.specs.SteadyPairFlown.{OpensSteadyPair, SteadyPairFliesOn};
+ghost use Rattle.steady_pair.specs.SteadyPairFlown.{OpensSteadyPair, OpensPlainPair, SteadyPairFliesOn, StepsPlainPair};
 
 // Opens a pair in its scalars, plain or, with an option of 1, as steady; the arrays of samples may hold anything. It answers 0; 9 where an option has no meaning; or the number of the first of the rules 1 to 5 that is broken. On a number nothing is written.
 #[unsafe(no_mangle)]
@@ -32,6 +32,7 @@ pub extern "C" fn identify_live_pair_open(
 ) -> u32
     ensures opening { SteadyPairOpened options (config_by amplitude duration_s washout_tc_s extension extension_amplitude extension_duration_s) (scalars_over words1 floats1 words2 floats2) steady first_dt_s result }
     ensures flown { OpensSteadyPair (config_by amplitude duration_s washout_tc_s extension extension_amplitude extension_duration_s) (scalars_over words1 floats1 words2 floats2) steady first_dt_s result }
+    ensures plain { options ≢ 1 → OpensPlainPair options (config_by amplitude duration_s washout_tc_s extension extension_amplitude extension_duration_s) (scalars_over words1 floats1 words2 floats2) result }
 {
     steady_pair::open(
         words1,
@@ -77,6 +78,7 @@ pub extern "C" fn identify_live_pair_step(
 ) -> u32
     ensures flight { SteadyPairStepped steady first_dt_s (pair_over words1 floats1 rates1 moments1 offsets1 held1 words2 floats2 rates2 moments2 offsets2 held2) (two_call dt rate1 moment1 rate2 moment2) (offsets_over offset1 offset2) result }
     ensures flown { SteadyPairFliesOn steady first_dt_s (pair_over words1 floats1 rates1 moments1 offsets1 held1 words2 floats2 rates2 moments2 offsets2 held2) (two_call dt rate1 moment1 rate2 moment2) (offsets_over offset1 offset2) result }
+    ensures plain { steady ≡ 0 → StepsPlainPair first_dt_s (pair_over words1 floats1 rates1 moments1 offsets1 held1 words2 floats2 rates2 moments2 offsets2 held2) (two_call dt rate1 moment1 rate2 moment2) (offsets_over offset1 offset2) result }
 {
     steady_pair::step(
         words1, floats1, rates1, moments1, offsets1, held1, words2, floats2, rates2, moments2,
@@ -101,6 +103,8 @@ pub extern "C" fn identify_live_pair_ready(
     ensures bytes2 { marks2.new ≡ steady_pair_readied steady first_dt_s (scalars_read words1 floats1 words2 floats2) second dt marks2.old }
     ensures marks1 { KeepsMarks marks1.old marks1.new }
     ensures marks2 { KeepsMarks marks2.old marks2.new }
+    ensures plain1 { steady ≡ 0 → marks1.new ≡ pair_readied (scalars_read words1 floats1 words2 floats2) first dt marks1.old }
+    ensures plain2 { steady ≡ 0 → marks2.new ≡ pair_readied (scalars_read words1 floats1 words2 floats2) second dt marks2.old }
 {
     steady_pair::ready(
         words1, floats1, marks1, words2, floats2, marks2, steady, first_dt_s, dt,

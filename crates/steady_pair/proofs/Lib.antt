@@ -1,3 +1,4 @@
 pub mod Lists
 pub mod SteadyPairFlying
 pub mod Calls
+pub mod Plain

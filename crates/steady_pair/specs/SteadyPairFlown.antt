@@ -13,8 +13,8 @@ use Rattle.live_probe.specs.Live.{live}
 use Rattle.live_probe.specs.Flown.{reply_by}
 use Rattle.steady_probe.specs.SteadyLive.{Written}
 use Rattle.steady_probe.specs.SteadyFlown.{start}
-use Rattle.live_pair.specs.Pair.{Pair, pair_opening, pair_flight}
-use Rattle.live_pair.specs.Flown.{PairFlown, PairFlies}
+use Rattle.live_pair.specs.Pair.{Pair, pair_opening, PairOpened, pair_flight, PairStepped}
+use Rattle.live_pair.specs.Flown.{PairFlown, PairFlies, OpensPair, PairFliesOn}
 use Rattle.steady_pair.specs.SteadyPair.{steady_pair_opening, steady_pair_open, steady_pair_flight, steady_pair_step}
 
 -- Opened from c and stepped with these calls, in this order, with nothing written in between: each by what its contract ensures; and what the calls answered for each axis.
@@ -49,3 +49,15 @@ abbrev pub SteadyPairFliesOn : ℕ → Written Float → Both Pair Pair → TwoC
 SteadyPairFliesOn steady dt k y offset n =
     (c : IdentifyConfig) (calls : List TwoCall) (answers : Axis → List Reply) → SteadyPairFlown c steady calls answers k.entry dt.entry.now
     → SteadyPairFlies c steady (calls ++ (y ∷ [])) (λ x. answers x ++ (reply_by n (offset.exit x) ∷ [])) k.exit dt.exit.now
+
+-- ---- "A probe opened without the word behaves as before.": what the contracts of the calls ensure of it beside
+-- an opening of c in these scalars, with options that had no new meaning, answered n: the plain opening
+pub record OpensPlainPair (options : ℕ) (c : IdentifyConfig) (s : Both (Axis → Scalars) (Axis → Scalars)) (n : ℕ) : Type 0 where
+  pub opened : PairOpened options c s n
+  pub flown : OpensPair c s n
+
+-- a call y of what is kept here answered n and these offsets: the plain call, and the first dt stays
+pub record StepsPlainPair (dt : Written Float) (k : Both Pair Pair) (y : TwoCall) (offset : Both (Axis → Float) (Axis → Float)) (n : ℕ) : Type 0 where
+  pub stepped : PairStepped k y offset n
+  pub flown : PairFliesOn k y offset n
+  pub tested : dt.exit.now ≡ dt.entry.now

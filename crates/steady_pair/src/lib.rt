@@ -1,13 +1,13 @@
 // A pair of probes in their caller's memory that is opened plain or as steady: the test of a call's dt, once for both axes, and then the plain call.
 #![tactic(auto)]
 
-ghost use Rattle.std.specs.Prelude.{◌≡◌};
+ghost use Rattle.std.specs.Prelude.{◌≡◌, ◌≢◌};
 ghost use Rattle.marks.specs.Marks.{KeepsMarks};
 ghost use Rattle.two_axis.specs.Axes.{first, second, two_call};
 ghost use Rattle.live_probe.specs.Live.{config_by};
-ghost use Rattle.live_pair.specs.Pair.{scalars_over, pair_over, offsets_over, scalars_read};
+ghost use Rattle.live_pair.specs.Pair.{scalars_over, pair_over, offsets_over, scalars_read, pair_readied};
 ghost use Rattle.steady_pair.specs.SteadyPair.{SteadyPairOpened, both_run, SteadyPairStepped, steady_pair_readied};
-ghost use Rattle.steady_pair.specs.SteadyPairFlown.{OpensSteadyPair, SteadyPairFliesOn};
+ghost use Rattle.steady_pair.specs.SteadyPairFlown.{OpensSteadyPair, OpensPlainPair, SteadyPairFliesOn, StepsPlainPair};
 
 // ---- open
 
@@ -29,6 +29,7 @@ pub fn open(
 ) -> u32
     ensures opening { SteadyPairOpened options (config_by amplitude duration_s washout_tc_s extension extension_amplitude extension_duration_s) (scalars_over words1 floats1 words2 floats2) steady first_dt_s result }
     ensures flown { OpensSteadyPair (config_by amplitude duration_s washout_tc_s extension extension_amplitude extension_duration_s) (scalars_over words1 floats1 words2 floats2) steady first_dt_s result }
+    ensures plain { options ≢ 1 → OpensPlainPair options (config_by amplitude duration_s washout_tc_s extension extension_amplitude extension_duration_s) (scalars_over words1 floats1 words2 floats2) result }
 {
     if options > 1 {
         return 9;
@@ -89,6 +90,7 @@ pub fn step(
 ) -> u32
     ensures flight { SteadyPairStepped steady first_dt_s (pair_over words1 floats1 rates1 moments1 offsets1 held1 words2 floats2 rates2 moments2 offsets2 held2) (two_call dt rate1 moment1 rate2 moment2) (offsets_over offset1 offset2) result }
     ensures flown { SteadyPairFliesOn steady first_dt_s (pair_over words1 floats1 rates1 moments1 offsets1 held1 words2 floats2 rates2 moments2 offsets2 held2) (two_call dt rate1 moment1 rate2 moment2) (offsets_over offset1 offset2) result }
+    ensures plain { steady ≡ 0 → StepsPlainPair first_dt_s (pair_over words1 floats1 rates1 moments1 offsets1 held1 words2 floats2 rates2 moments2 offsets2 held2) (two_call dt rate1 moment1 rate2 moment2) (offsets_over offset1 offset2) result }
 {
     let running = both_run(words1, floats1, words2, floats2);
     let band = steady::band_of(steady, *first_dt_s);
@@ -121,6 +123,8 @@ pub fn ready(
     ensures bytes2 { marks2.new ≡ steady_pair_readied steady first_dt_s (scalars_read words1 floats1 words2 floats2) second dt marks2.old }
     ensures marks1 { KeepsMarks marks1.old marks1.new }
     ensures marks2 { KeepsMarks marks2.old marks2.new }
+    ensures plain1 { steady ≡ 0 → marks1.new ≡ pair_readied (scalars_read words1 floats1 words2 floats2) first dt marks1.old }
+    ensures plain2 { steady ≡ 0 → marks2.new ≡ pair_readied (scalars_read words1 floats1 words2 floats2) second dt marks2.old }
 {
     let band = steady::band_of(steady, first_dt_s);
     if steady::turns_back(band, both_run(words1, floats1, words2, floats2), dt) {

@@ -1,3 +1,4 @@
 pub mod Lists
 pub mod SteadyFlying
 pub mod Calls
+pub mod Plain

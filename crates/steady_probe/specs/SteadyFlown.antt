@@ -10,8 +10,8 @@ use Rattle.steady.specs.declared.Band.{Band}
 use Rattle.steady.specs.Guarded.{without}
 use Rattle.steady.specs.Kept.{band_in}
 use Rattle.steady.specs.Steady.{opened_in, turned_in, account_in, even_calls, fresh_in, probe_in, replies_in, SteadyAccounted}
-use Rattle.live_probe.specs.Live.{Live, live, opening, flight}
-use Rattle.live_probe.specs.Flown.{reply_by, Flown, Flies}
+use Rattle.live_probe.specs.Live.{Live, live, opening, live_open, flight, live_step}
+use Rattle.live_probe.specs.Flown.{reply_by, Flown, Flies, OpensFlight, FliesOn}
 use Rattle.steady_probe.specs.SteadyLive.{Written, steady_opening, steady_open, steady_flight, steady_step}
 
 -- the band that a word opens with: none has a first dt yet
@@ -48,3 +48,15 @@ abbrev pub SteadyFliesOn : ℕ → Written Float → Both Live Live → Call →
 SteadyFliesOn steady first k y offset n =
     (c : IdentifyConfig) (calls : List Call) (answers : List Reply) → SteadyFlown c steady calls answers k.entry first.entry.now
     → SteadyFlies c steady (calls ++ (y ∷ [])) (answers ++ (reply_by n offset.exit.now ∷ [])) k.exit first.exit.now
+
+-- ---- "A probe opened without the word behaves as before.": what the contracts of the calls ensure of it beside
+-- an opening of c in these scalars, with options that had no new meaning, answered n: the plain opening
+pub record OpensPlain (options : ℕ) (c : IdentifyConfig) (s : Both Scalars Scalars) (n : ℕ) : Type 0 where
+  pub opened : opening n s.exit ≡ live_open options c s.entry
+  pub flown : OpensFlight c n s.exit
+
+-- a call y of what is kept here answered n and this offset: the plain call, and the first dt stays
+pub record StepsPlain (first : Written Float) (k : Both Live Live) (y : Call) (offset : Written Float) (n : ℕ) : Type 0 where
+  pub stepped : flight n offset.exit.now k.exit ≡ live_step k.entry y offset.entry.now
+  pub flown : FliesOn k.entry y n offset.exit.now k.exit
+  pub tested : first.exit.now ≡ first.entry.now

@@ -1,16 +1,16 @@
 // A probe in its caller's memory that is opened plain or as steady: the test of a call's dt, and then the plain call.
 #![tactic(auto)]
 
-ghost use Rattle.std.specs.Prelude.{◌≡◌};
+ghost use Rattle.std.specs.Prelude.{◌≡◌, ◌≢◌};
 ghost use Rattle.marks.specs.Marks.{KeepsMarks};
 ghost use Rattle.account.specs.Probe.{clock};
 ghost use Rattle.identify.specs.Seen.{call};
 ghost use Rattle.probe_words.specs.Layout.{scalars, probe_in};
 ghost use Rattle.steady.specs.Band.{turns_back};
 ghost use Rattle.steady.specs.Steady.{is_running};
-ghost use Rattle.live_probe.specs.Live.{config_by};
+ghost use Rattle.live_probe.specs.Live.{config_by, readied};
 ghost use Rattle.steady_probe.specs.SteadyLive.{scalars_over, live_over, SteadyOpened, runs_in, SteadyStepped, steady_readied};
-ghost use Rattle.steady_probe.specs.SteadyFlown.{OpensSteady, SteadyFliesOn};
+ghost use Rattle.steady_probe.specs.SteadyFlown.{OpensSteady, OpensPlain, SteadyFliesOn, StepsPlain};
 
 use account::IdentifyStatus;
 
@@ -32,6 +32,7 @@ pub fn open(
 ) -> u32
     ensures opening { SteadyOpened options (config_by amplitude duration_s washout_tc_s extension extension_amplitude extension_duration_s) (scalars_over words floats) steady first_dt_s result }
     ensures flown { OpensSteady (config_by amplitude duration_s washout_tc_s extension extension_amplitude extension_duration_s) (scalars_over words floats) steady first_dt_s result }
+    ensures plain { options ≢ 1 → OpensPlain options (config_by amplitude duration_s washout_tc_s extension extension_amplitude extension_duration_s) (scalars_over words floats) result }
 {
     if options > 1 {
         return 9;
@@ -93,6 +94,7 @@ pub fn step(
 ) -> u32
     ensures flight { SteadyStepped steady first_dt_s (live_over words floats rates moments offsets held) (call dt rate moment) offset result }
     ensures flown { SteadyFliesOn steady first_dt_s (live_over words floats rates moments offsets held) (call dt rate moment) offset result }
+    ensures plain { steady ≡ 0 → StepsPlain first_dt_s (live_over words floats rates moments offsets held) (call dt rate moment) offset result }
 {
     let running = runs(words, floats);
     let band = steady::band_of(steady, *first_dt_s);
@@ -119,6 +121,7 @@ pub fn ready(
 )
     ensures bytes { marks.new ≡ steady_readied steady first_dt_s (probe_in (scalars words.now floats.now)) dt marks.old }
     ensures marks { KeepsMarks marks.old marks.new }
+    ensures plain { steady ≡ 0 → marks.new ≡ readied (probe_in (scalars words.now floats.now)) dt marks.old }
 {
     let band = steady::band_of(steady, first_dt_s);
     if steady::turns_back(band, runs(words, floats), dt) {

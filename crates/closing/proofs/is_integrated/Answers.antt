@@ -1,4 +1,4 @@
--- `is_integrated` is `is_integrated`, an arm each.
+-- An arm each, as in the definition.
 use Rattle.account.specs.Account.{is_integrated}
 use Rattle.closing.proofs.is_integrated.Goals as goal
 

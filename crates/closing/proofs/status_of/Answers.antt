@@ -1,4 +1,4 @@
--- `status_of` is `status_of`, an arm each.
+-- An arm each, as in the definition.
 use mathlib.Core.Path.{sym, ap}
 use Rattle.account.specs.Probe.{status_of}
 use Rattle.closing.proofs.status_of.Goals as goal

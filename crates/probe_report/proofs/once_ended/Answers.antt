@@ -1,4 +1,4 @@
--- `once_ended` is `once_ended`, an arm each.
+-- An arm each, as in the definition.
 use borrow.Author.Rules.{rules}
 use Rattle.account.specs.Probe.{clock}
 use Rattle.probe_report.proofs.once_ended.Goals as goal

@@ -1,4 +1,4 @@
--- `clock_of` is `clock_of`, an arm each.
+-- An arm each, as in the definition.
 use mathlib.Core.Path.{sym, ap}
 use Rattle.rules.specs.Clock.{clock_of}
 use Rattle.rules.proofs.clock_of.Goals as goal

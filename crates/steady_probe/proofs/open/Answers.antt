@@ -1,9 +1,18 @@
 -- The options are told first, then what the plain opening answers; on 0 the word and the first dt are written.
-use Rattle.probe_words.specs.Layout.{scalars}
-use Rattle.live_probe.specs.Live.{config_by}
+use mathlib.Core.Path.{◌≡◌}
+use Rattle.std.specs.Prelude.{ℕ}
+use Rattle.account.specs.declared.IdentifyConfig.{IdentifyConfig}
+use Rattle.probe_words.specs.Layout.{Scalars, scalars}
+use Rattle.live_probe.specs.Live.{config_by, opening, live_open}
+use Rattle.steady_probe.specs.SteadyFlown.{OpensPlain}
 use Rattle.steady_probe.proofs.Calls.{unknown, turned_away, opened}
+use Rattle.live_probe.proofs.Flying.{begun}
 use Rattle.steady_probe.proofs.SteadyFlying.{steady_begun}
+use Rattle.steady_probe.proofs.Plain.{opens_plain}
 use Rattle.steady_probe.proofs.open.Goals as goal
+
+plain_too : (options : ℕ) (c : IdentifyConfig) (s t : Scalars) (n : ℕ) → opening n t ≡ live_open options c s → OpensPlain options c (record { entry = s; exit = t }) n
+plain_too options c s t n e = record { opened = e; flown = begun options c s t n e }
 
 pub returns-then-options-gt1 : goal.returns-then-options-gt1
 returns-then-options-gt1 c =
@@ -11,7 +20,7 @@ returns-then-options-gt1 c =
     let g = config_by a.amplitude a.duration_s a.washout_tc_s a.extension a.extension_amplitude a.extension_duration_s in
     let s = scalars a.words.now a.floats.now in
     let is = unknown g s a.steady.now a.first_dt_s.now a.options c.if-options-gt1.true in
-    record { opening = is; flown = steady_begun a.options a.steady.now a.first_dt_s.now g s s 9 _ _ is }
+    record { opening = is; flown = steady_begun a.options a.steady.now a.first_dt_s.now g s s 9 _ _ is; plain = λ h. plain_too a.options g s s 9 (opens_plain g s s a.options 9 _ _ _ _ is h) }
 
 pub returns-then-number-ne0 : goal.returns-then-number-ne0
 returns-then-number-ne0 c =
@@ -19,7 +28,7 @@ returns-then-number-ne0 c =
     let g = config_by a.amplitude a.duration_s a.washout_tc_s a.extension a.extension_amplitude a.extension_duration_s in
     let s = scalars a.words.now a.floats.now in
     let is = turned_away g s a.steady.now a.first_dt_s.now a.options _ _ c.if-options-gt1.false c.if-number-ne0.true c.open-number.ensures.opening in
-    record { opening = is; flown = steady_begun a.options a.steady.now a.first_dt_s.now g s _ _ _ _ is }
+    record { opening = is; flown = steady_begun a.options a.steady.now a.first_dt_s.now g s _ _ _ _ is; plain = λ h. plain_too a.options g s _ _ (opens_plain g s _ a.options _ _ _ _ _ is h) }
 
 pub returns : goal.returns
 returns c =
@@ -27,4 +36,4 @@ returns c =
     let g = config_by a.amplitude a.duration_s a.washout_tc_s a.extension a.extension_amplitude a.extension_duration_s in
     let s = scalars a.words.now a.floats.now in
     let is = opened g s a.steady.now a.first_dt_s.now a.options _ _ c.if-options-gt1.false c.if-number-ne0.false c.open-number.ensures.opening in
-    record { opening = is; flown = steady_begun a.options a.steady.now a.first_dt_s.now g s _ 0 _ _ is }
+    record { opening = is; flown = steady_begun a.options a.steady.now a.first_dt_s.now g s _ 0 _ _ is; plain = λ h. plain_too a.options g s _ 0 (opens_plain g s _ a.options 0 _ _ _ _ is h) }

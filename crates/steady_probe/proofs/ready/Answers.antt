@@ -5,6 +5,7 @@ use Rattle.probe_words.specs.Layout.{scalars, probe_in}
 use Rattle.steady.specs.declared.Band.{Band}
 use Rattle.steady.specs.Band.{turns_back}
 use Rattle.steady_probe.proofs.Calls.{left_alone, readies}
+use Rattle.steady_probe.proofs.Plain.{readies_plain}
 use Rattle.steady_probe.proofs.ready.Goals as goal
 
 pub returns-then-turns_back-clause-bytes : goal.returns-then-turns_back-clause-bytes
@@ -19,3 +20,11 @@ returns-clause-bytes c =
     c.ready.ensures.bytes
     ∙ readies a.steady a.first_dt_s a.dt (probe_in (scalars a.words.now a.floats.now)) a.marks.now
     (ap₂ (λ (b : Band) (r : Bool). turns_back b r a.dt) (sym c.band_of-band.ensures) (sym c.runs.ensures) ∙ sym c.turns_back.ensures ∙ c.if-turns_back.false)
+
+pub returns-then-turns_back-clause-plain : goal.returns-then-turns_back-clause-plain
+returns-then-turns_back-clause-plain c =
+    let a = c.args in
+    readies_plain a.steady a.first_dt_s a.dt (probe_in (scalars a.words.now a.floats.now)) a.marks.now a.marks.now (returns-then-turns_back-clause-bytes c)
+
+pub returns-clause-plain : goal.returns-clause-plain
+returns-clause-plain c h = c.ready.ensures.bytes

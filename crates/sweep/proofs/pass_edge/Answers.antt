@@ -1,4 +1,4 @@
--- `pass_edge` fills the fields of `pass_edge` one by one.
+-- The fields of the definition, one by one.
 use native.Mathlib.Numerals.{add-one}
 use Rattle.sweep.specs.Sweep.{pass_edge}
 use Rattle.sweep.proofs.pass_edge.Goals as goal

@@ -1,4 +1,4 @@
--- `with_washout` fills the fields of `with_washout` one by one.
+-- The fields of the definition, one by one.
 use mathlib.Core.Path.{refl}
 use Rattle.sweep.specs.Sweep.{with_washout}
 use Rattle.sweep.proofs.with_washout.Goals as goal

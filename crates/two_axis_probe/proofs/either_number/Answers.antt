@@ -1,4 +1,4 @@
--- `either_number` is `either_number`: the first axis's number where it has one.
+-- The first axis's number where it has one.
 use mathlib.Core.Path.{sym, ◌∙◌}
 use Rattle.two_axis_probe.specs.Stepped.{either_number}
 use Rattle.two_axis_probe.proofs.Stepping.{by_first}

@@ -1,4 +1,4 @@
--- `with_amplitude` fills the fields of `with_amplitude` one by one.
+-- The fields of the definition, one by one.
 use mathlib.Core.Path.{refl}
 use Rattle.sweep.specs.Sweep.{with_amplitude}
 use Rattle.sweep.proofs.SquareSweep.with_amplitude.Goals as goal
