@@ -84,9 +84,12 @@ def told(piece, new, said, page):
 def main():
     logic_files = sorted(f for part in ("specs", "proofs") for f in glob.glob(f"crates/*/{part}/**/*.antt", recursive=True))
     others = sorted(glob.glob("crates/*/src/**/*.rt", recursive=True) + glob.glob("crates/*/must-fail/*.edit"))
-    pages = sorted({"README.md", *glob.glob("docs/*.md")} - {"docs/01-scope.md", "docs/02-change-requests.md"})
+    pages = sorted({"README.md", *glob.glob("docs/*.md")} - {"docs/01-scope.md", "docs/02-change-requests.md", "docs/PORT.md"})
     texts = {f: open(f).read() for f in logic_files + others}
     new = names({f: bare(texts[f]) for f in logic_files}, [texts[f] for f in others])
+    if not new:
+        print("0 names")
+        return
     together = False
     for f in logic_files:
         came = collections.defaultdict(set)

@@ -50,13 +50,13 @@ SteadyPairFliesOn steady dt k y offset n =
     (c : IdentifyConfig) (calls : List TwoCall) (answers : Axis → List Reply) → SteadyPairFlown c steady calls answers k.entry dt.entry.now
     → SteadyPairFlies c steady (calls ++ (y ∷ [])) (λ x. answers x ++ (reply_by n (offset.exit x) ∷ [])) k.exit dt.exit.now
 
--- ---- "A probe opened without the word behaves as before.": what the contracts of the calls ensure of it beside
--- an opening of c in these scalars, with options that had no new meaning, answered n: the plain opening
+-- ---- "A probe opened without the word behaves as before.", as the contracts of the calls ensure it
+-- an opening of c in these scalars, with options other than 1, answered n: the plain opening
 pub record OpensPlainPair (options : ℕ) (c : IdentifyConfig) (s : Both (Axis → Scalars) (Axis → Scalars)) (n : ℕ) : Type 0 where
   pub opened : PairOpened options c s n
   pub flown : OpensPair c s n
 
--- a call y of what is kept here answered n and these offsets: the plain call, and the first dt stays
+-- a call y of what is kept here, with a word of 0, answered n and these offsets: the plain call, and the first dt stays
 pub record StepsPlainPair (dt : Written Float) (k : Both Pair Pair) (y : TwoCall) (offset : Both (Axis → Float) (Axis → Float)) (n : ℕ) : Type 0 where
   pub stepped : PairStepped k y offset n
   pub flown : PairFliesOn k y offset n

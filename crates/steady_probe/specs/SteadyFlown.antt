@@ -49,13 +49,13 @@ SteadyFliesOn steady first k y offset n =
     (c : IdentifyConfig) (calls : List Call) (answers : List Reply) → SteadyFlown c steady calls answers k.entry first.entry.now
     → SteadyFlies c steady (calls ++ (y ∷ [])) (answers ++ (reply_by n offset.exit.now ∷ [])) k.exit first.exit.now
 
--- ---- "A probe opened without the word behaves as before.": what the contracts of the calls ensure of it beside
--- an opening of c in these scalars, with options that had no new meaning, answered n: the plain opening
+-- ---- "A probe opened without the word behaves as before.", as the contracts of the calls ensure it
+-- an opening of c in these scalars, with options other than 1, answered n: the plain opening
 pub record OpensPlain (options : ℕ) (c : IdentifyConfig) (s : Both Scalars Scalars) (n : ℕ) : Type 0 where
   pub opened : opening n s.exit ≡ live_open options c s.entry
   pub flown : OpensFlight c n s.exit
 
--- a call y of what is kept here answered n and this offset: the plain call, and the first dt stays
+-- a call y of what is kept here, with a word of 0, answered n and this offset: the plain call, and the first dt stays
 pub record StepsPlain (first : Written Float) (k : Both Live Live) (y : Call) (offset : Written Float) (n : ℕ) : Type 0 where
   pub stepped : flight n offset.exit.now k.exit ≡ live_step k.entry y offset.entry.now
   pub flown : FliesOn k.entry y n offset.exit.now k.exit
