@@ -3,11 +3,13 @@ use mathlib.Core.Path.{◌≡◌, refl, sym, ap, ap₂, subst, ◌∙◌}
 use Rattle.std.specs.Prelude.{ℕ, zero, suc, Bool, true, false, not, ◌&&◌, cond, List, [], ◌∷◌, eqb, Float}
 use mathlib.Core.Bool.{true≢false}
 use mathlib.Core.List.{foldl}
+use Rattle.std.proofs.Math.Bool.{and-false}
 use Rattle.steady.specs.declared.Band.{Band}
 use Rattle.steady.specs.declared.Band.TheVariants.{Plain, Steady, Around}
 use Rattle.steady.specs.Band.{turns_back, uneven, keeps}
 use Rattle.steady.specs.Guarded.{Guarded, band_after, band_of, lie, without, number_in, passed, next_in, after_in, numbers_in, even_of, heard_one, heard}
 use Rattle.account.specs.Rules.{positive}
+use Rattle.steady.proofs.Kept.{plain_after}
 
 keeps_first : (b : Band) (x y : Float) → keeps (keeps b x) y ≡ keeps b x
 unfolding keeps
@@ -21,14 +23,10 @@ first_kept dt_of b x [] = refl
 first_kept dt_of b x (c ∷ cs) = keeps_first b x (dt_of c)
 
 -- a band without a first dt turns nothing back
-none_back : (r : Bool) (dt : Float) (b : Band) → uneven b dt ≡ false → turns_back b r dt ≡ false
+pub none_back : (r : Bool) (dt : Float) (b : Band) → uneven b dt ≡ false → turns_back b r dt ≡ false
 unfolding turns_back
 none_back false dt b h = refl
-none_back true dt b h = rw h (and_false (positive dt))
-  where
-    and_false : (x : Bool) → (x && false) ≡ false
-    and_false true = refl
-    and_false false = refl
+none_back true dt b h = rw h (and-false (positive dt))
 
 module _ {S C : Type 0} (runs : S → Bool) (dt_of : C → Float) (number : S → C → ℕ) (next : S → C → S) where
   abbrev X : Guarded S → C → Guarded S
@@ -64,18 +62,12 @@ module _ {S C : Type 0} (runs : S → Bool) (dt_of : C → Float) (number : S �
     one_stays true g c cs e h = absurd (true≢false e)
     one_stays false g c cs e h = rw (not_ten g.inner c) (ap (λ (l : List C). c ∷ l) h)
 
-    plain_kept : (n : ℕ) (r : Bool) (dt : Float) → band_after n r Plain dt ≡ Plain
-    unfolding band_after keeps
-    plain_kept (suc n) r dt = refl
-    plain_kept zero false dt = refl
-    plain_kept zero true dt = refl
-
     pub plain : (cs : List C) (g : Guarded S) → g.band ≡ Plain → E g cs ≡ cs
     unfolding numbers_in without number_in next_in uneven
     plain [] g h = refl
     plain (c ∷ cs) g h =
         one_stays (turns_back g.band (runs g.inner) (dt_of c)) g c cs (rw h (none_back (runs g.inner) (dt_of c) Plain refl))
-        (plain cs (P g c) (rw h (plain_kept (number g.inner c) (runs g.inner) (dt_of c))))
+        (plain cs (P g c) (rw h (plain_after (number g.inner c) (runs g.inner) (dt_of c))))
 
   -- a call's own step, by its number and by whether what stepped ran
   abbrev Q : ℕ → Bool → Guarded S → C → Guarded S

@@ -5,9 +5,12 @@ use native.Mathlib.Omega.{arith}
 use Rattle.account.specs.declared.IdentifyConfig.{IdentifyConfig}
 use Rattle.probe_words.specs.Layout.{Scalars}
 use Rattle.two_axis.specs.Axes.{Axis, TwoCall}
+use Rattle.steady.specs.declared.Band.TheVariants.{Plain}
+use Rattle.steady.specs.Band.{uneven}
 use Rattle.steady.specs.Kept.{band_in}
+use Rattle.steady.proofs.Guarded.{none_back}
+use Rattle.steady.proofs.Kept.{plain_first}
 use Rattle.steady_probe.proofs.Calls.{over_one}
-use Rattle.steady_probe.proofs.Plain.{none_uneven, first_stays}
 use Rattle.live_pair.specs.Pair.{Pair, PairOpening, pair_opening, pair_open, pair_flight, pair_step, pair_readied}
 use Rattle.steady_pair.specs.SteadyPair.{steady_pair_opening, start_pair_in, steady_pair_open, both_run, pair_runs, steady_pair_flight, steady_pair_step, steady_pair_readied}
 
@@ -27,8 +30,8 @@ opens_plain c s t (suc (suc options)) n found steady before dt e h =
 
 -- ---- step
 steps : (dt : Float) (k : Pair) (y : TwoCall) (found : Axis → Float) → steady_pair_step 0 dt k y found ≡ steady_pair_flight (pair_step k y found) dt
-unfolding steady_pair_step band_in
-steps dt k y found = rw (none_uneven (pair_runs k) dt y.dt, first_stays (pair_step k y found).result (pair_runs k) dt y.dt) refl
+unfolding steady_pair_step band_in uneven
+steps dt k y found = rw (none_back (pair_runs k) y.dt Plain refl, plain_first (pair_step k y found).result (pair_runs k) dt y.dt) refl
 
 pub steps_plain : (steady : ℕ) (dt later : Float) (k next : Pair) (y : TwoCall) (n : ℕ) (found x : Axis → Float)
     → steady_pair_flight (pair_flight n x next) later ≡ steady_pair_step steady dt k y found → steady ≡ 0 → (pair_flight n x next ≡ pair_step k y found) × (later ≡ dt)
@@ -38,6 +41,6 @@ steps_plain (suc steady) dt later k next y n found x e h = absurd (omega (arith,
 -- ---- marks
 pub readies_plain : (steady : ℕ) (kept dt : Float) (s : Axis → Scalars) (x : Axis) (old new : List ℕ)
     → new ≡ steady_pair_readied steady kept s x dt old → steady ≡ 0 → new ≡ pair_readied s x dt old
-unfolding steady_pair_readied
-readies_plain zero kept dt s x old new e h = e ∙ rw (none_uneven (both_run s) kept dt) refl
+unfolding steady_pair_readied band_in uneven
+readies_plain zero kept dt s x old new e h = e ∙ rw (none_back (both_run s) dt Plain refl) refl
 readies_plain (suc steady) kept dt s x old new e h = absurd (omega (arith, h))

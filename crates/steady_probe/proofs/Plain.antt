@@ -1,34 +1,19 @@
 -- A probe opened without the word behaves as before: of a word of 0 the equations of the contracts are the plain ones.
 use mathlib.Core.Path.{◌≡◌, refl, ap, ◌∙◌}
-use Rattle.std.specs.Prelude.{ℕ, zero, suc, ◌&&◌, Bool, true, false, List, Float}
+use Rattle.std.specs.Prelude.{ℕ, zero, suc, List, Float}
 use native.Mathlib.Omega.{arith}
 use Rattle.account.specs.declared.IdentifyConfig.{IdentifyConfig}
-use Rattle.account.specs.Rules.{positive}
 use Rattle.account.specs.Probe.{Call}
 use Rattle.identify.specs.declared.IdentifyProbe.{IdentifyProbe}
 use Rattle.probe_words.specs.Layout.{Scalars}
 use Rattle.steady.specs.declared.Band.TheVariants.{Plain}
-use Rattle.steady.specs.Band.{uneven, turns_back}
-use Rattle.steady.specs.Kept.{band_in, first_after}
+use Rattle.steady.specs.Band.{uneven}
+use Rattle.steady.specs.Kept.{band_in}
+use Rattle.steady.proofs.Guarded.{none_back}
+use Rattle.steady.proofs.Kept.{plain_first}
 use Rattle.live_probe.specs.Live.{Live, live_probe, Opening, opening, live_open, flight, live_step, readied}
 use Rattle.steady_probe.proofs.Calls.{over_one}
 use Rattle.steady_probe.specs.SteadyLive.{steady_opening, start_in, steady_open, runs_in, steady_flight, steady_step, steady_readied}
-
--- no dt is turned back, and no first dt is kept
-pub none_uneven : (r : Bool) (first dt : Float) → turns_back (band_in 0 first) r dt ≡ false
-unfolding turns_back uneven band_in
-none_uneven r first dt = go r (positive dt)
-  where
-    go : (r p : Bool) → (r && (p && false)) ≡ false
-    go true true = refl
-    go true false = refl
-    go false p = refl
-
-pub first_stays : (n : ℕ) (r : Bool) (first dt : Float) → first_after n r Plain first dt ≡ first
-unfolding first_after
-first_stays zero true first dt = refl
-first_stays zero false first dt = refl
-first_stays (suc n) r first dt = refl
 
 -- ---- open
 started : (n options steady : ℕ) (first : Float) (o : Opening) → (start_in n options steady first o).opening ≡ o
@@ -46,9 +31,9 @@ opens_plain c s t (suc (suc options)) n found steady before first e h =
 
 -- ---- step
 steps : (first : Float) (k : Live) (y : Call) (found : Float) → steady_step 0 first k y found ≡ steady_flight (live_step k y found) first
-unfolding steady_step band_in
+unfolding steady_step band_in uneven
 steps first k y found =
-    rw (none_uneven (runs_in (live_probe k)) first y.dt, first_stays (live_step k y found).result (runs_in (live_probe k)) first y.dt) refl
+    rw (none_back (runs_in (live_probe k)) y.dt Plain refl, plain_first (live_step k y found).result (runs_in (live_probe k)) first y.dt) refl
 
 pub steps_plain : (steady : ℕ) (first later : Float) (k next : Live) (y : Call) (n : ℕ) (found x : Float)
     → steady_flight (flight n x next) later ≡ steady_step steady first k y found → steady ≡ 0 → (flight n x next ≡ live_step k y found) × (later ≡ first)
@@ -57,6 +42,6 @@ steps_plain (suc steady) first later k next y n found x e h = absurd (omega (ari
 
 -- ---- marks
 pub readies_plain : (steady : ℕ) (first dt : Float) (p : IdentifyProbe) (old new : List ℕ) → new ≡ steady_readied steady first p dt old → steady ≡ 0 → new ≡ readied p dt old
-unfolding steady_readied
-readies_plain zero first dt p old new e h = e ∙ rw (none_uneven (runs_in p) first dt) refl
+unfolding steady_readied band_in uneven
+readies_plain zero first dt p old new e h = e ∙ rw (none_back (runs_in p) dt Plain refl) refl
 readies_plain (suc steady) first dt p old new e h = absurd (omega (arith, h))
