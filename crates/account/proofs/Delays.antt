@@ -13,22 +13,18 @@ use Rattle.float.proofs.Fill.{filled}
 use Rattle.window.specs.Walk.{many, is_row}
 use Rattle.delay.specs.declared.Delay.{Delay}
 use Rattle.delay.specs.declared.RateModel.{RateModel}
-use Rattle.delay.specs.declared.Entry.TheVariants.{Missing}
-use Rattle.delay.specs.declared.Position.{Position}
-use Rattle.delay.specs.declared.Position.TheVariants.{Nowhere, At}
+use Rattle.std.specs.Prelude.{Option, Some, None}
 use Rattle.delay.specs.HalfTicks.{of_recorded, of_integrated, no_delay}
 use Rattle.delay.specs.Tie.{entry_count, delay_to_fit}
 use Rattle.delay.proofs.Winner.{won}
-use Rattle.least_squares.specs.declared.Solved.{Solved}
-use Rattle.least_squares.specs.declared.Solved.TheVariants as solved
+use Rattle.least_squares.specs.declared.Solution.{Solution}
 use Rattle.recorded.specs.declared.Classified.{Classified}
 use Rattle.recorded.specs.declared.Classified.TheVariants.{Recorded, Integrated, Unexcited, Saturated}
 use Rattle.recorded.specs.Classify.{fit_at, fit_of, class_of, classify, fit_recorded, quiet_or, noisy_class, saturated, solved_at, noisy_residual, rows_dt, model_of, tie_share}
 use Rattle.recorded.proofs.Winner.{is_a_delay}
 use Rattle.gain.specs.declared.GainFit.{GainFit}
 use Rattle.gain.specs.Gain.{first_tick, step_count}
-use Rattle.grid.specs.declared.Kept.{Kept}
-use Rattle.grid.specs.declared.Kept.TheVariants.{Empty, Best}
+use Rattle.grid.specs.declared.LagFit.{LagFit}
 use Rattle.grid.specs.Grid.{kept_at}
 use Rattle.golden.specs.Golden.{refined}
 use Rattle.integrated.specs.Integrated.{modelled, no_model, chosen_from, chosen_at, searched, window_fit, mean_dt, fit_long, fit_integrated}
@@ -66,49 +62,49 @@ quiet true m n moments h = cc
 quiet false m n moments h = absurd (no_recorded (saturated moments) m h)
 
 -- ---- the integrated fit: the step of a position that won has a candidate
-candidate : (kept : ℕ → Kept) (p : ℕ) → delay_to_fit zero32 (integrated.entries kept) ≡ At p → kept (p - 1) ≡ Empty → ⊥
+candidate : (kept : ℕ → Option LagFit) (p : ℕ) → delay_to_fit zero32 (integrated.entries kept) ≡ Some p → kept (p - 1) ≡ None → ⊥
 unfolding integrated.entries integrated.entry_of
 candidate kept p e h =
     let w = won zero32 (integrated.entries kept) p e in
     w.there
-    (filled (λ s l. integrated.entry_of (kept s)) (replicate entry_count Missing) Missing step_count (p - 1) (simp length-replicate (omega arith)) (omega (arith, w.from_one, w.in_list)) ∙ rw h)
+    (filled (λ s l. integrated.entry_of (kept s)) (replicate entry_count None) None step_count (p - 1) (simp length-replicate (omega arith)) (omega (arith, w.from_one, w.in_list)) ∙ rw h)
 
 module _ (a : Account) where
-  by_solved : (m : RateModel) (s : Solved) (p : ℕ) (dt : Float) (rows : ℕ) (moments : List Float) → recorded_position a ≡ At p
+  by_solved : (m : RateModel) (s : Option Solution) (p : ℕ) (dt : Float) (rows : ℕ) (moments : List Float) → recorded_position a ≡ Some p
       → class_of (fit_at s p dt rows) moments ≡ Recorded m → Keeps a (status.Done m) (of_recorded p)
   unfolding fit_at class_of model_of
-  by_solved m solved.NoFit p dt rows moments q h = absurd (let z : ◌≡◌ {A = ℕ} 0 1 = cc in omega arith)
-  by_solved m (solved.Fit s) p dt rows moments q h =
+  by_solved m None p dt rows moments q h = absurd (let z : ◌≡◌ {A = ℕ} 0 1 = cc in omega arith)
+  by_solved m (Some s) p dt rows moments q h =
       let same : of_recorded p ≡ m.delay = ap (λ (x : RateModel). x.delay) (quiet (le (rooted _) noisy_residual) m (model_of s p dt) moments h) in
       let w = is_a_delay (solved_at (rates_of a) (moments_of a) (marks_of a)) tie_share p q in
       model m refl (by_recorded p q (sym same)) same (omega (arith, w.0)) (omega (arith, w.1))
 
-  by_position : (m : RateModel) (q : Position) (f : ℕ → Solved) (dt : Float) (rows : ℕ) (moments : List Float) → recorded_position a ≡ q
+  by_position : (m : RateModel) (q : Option ℕ) (f : ℕ → Option Solution) (dt : Float) (rows : ℕ) (moments : List Float) → recorded_position a ≡ q
       → class_of (fit_of q f dt rows) moments ≡ Recorded m → Keeps a (status.Done m) (delay_at of_recorded q)
   unfolding fit_of class_of delay_at
-  by_position m Nowhere f dt rows moments e h = absurd (let z : ◌≡◌ {A = ℕ} 0 1 = cc in omega arith)
-  by_position m (At p) f dt rows moments e h = by_solved m (f (p - 1)) p dt rows moments e h
+  by_position m None f dt rows moments e h = absurd (let z : ◌≡◌ {A = ℕ} 0 1 = cc in omega arith)
+  by_position m (Some p) f dt rows moments e h = by_solved m (f (p - 1)) p dt rows moments e h
 
   keeps_recorded : (m : RateModel) → account_class a ≡ Recorded m → Keeps a (status.Done m) (delay_at of_recorded (recorded_position a))
   unfolding classify fit_recorded
   keeps_recorded m h =
       by_position m (recorded_position a) (solved_at (rates_of a) (moments_of a) (marks_of a)) (rows_dt (marks_of a) (length (rates_of a)) a.duration) (many is_row (marks_of a)) (moments_of a) refl h
 
-  by_kept : (k : Kept) (fit : Float → GainFit) (p : ℕ) (dt : Float) → integrated_position a ≡ At p → (k ≡ Empty → ⊥)
-      → Keeps a (status_of (chosen_from k fit p dt).fitted) (of_integrated p)
+  by_kept : (k : Option LagFit) (fit : Float → Option GainFit) (p : ℕ) (dt : Float) → integrated_position a ≡ Some p → (k ≡ None → ⊥)
+      → Keeps a (status_of (chosen_from k fit p dt).model) (of_integrated p)
   unfolding chosen_from modelled integrated.model_of
-  by_kept Empty fit p dt e h = absurd (h refl)
-  by_kept (Best b) fit p dt e h =
+  by_kept None fit p dt e h = absurd (h refl)
+  by_kept (Some b) fit p dt e h =
       let w = won zero32 _ p e in
       model (integrated.model_of (refined fit b).best p dt) refl (by_integrated p e refl) refl (omega (arith, w.from_one)) (omega (arith, w.in_list))
 
-  by_step : (q : Position) (dt : Float) (fit : ℕ → Float → GainFit) → integrated_position a ≡ q → delay_to_fit zero32 (integrated.entries (kept_at dt fit)) ≡ q
-      → Keeps a (status_of (chosen_at q dt fit).fitted) (delay_at of_integrated q)
+  by_step : (q : Option ℕ) (dt : Float) (fit : ℕ → Float → Option GainFit) → integrated_position a ≡ q → delay_to_fit zero32 (integrated.entries (kept_at dt fit)) ≡ q
+      → Keeps a (status_of (chosen_at q dt fit).model) (delay_at of_integrated q)
   unfolding chosen_at no_model delay_at
-  by_step Nowhere dt fit e h = unexcited a
-  by_step (At p) dt fit e h = by_kept (kept_at dt fit (p - 1)) (fit (p - 1)) p dt e (candidate (kept_at dt fit) p h)
+  by_step None dt fit e h = unexcited a
+  by_step (Some p) dt fit e h = by_kept (kept_at dt fit (p - 1)) (fit (p - 1)) p dt e (candidate (kept_at dt fit) p h)
 
-  by_long : (b : Bool) → Keeps a (status_of (fit_long b (rates_of a) (moments_of a) a.duration (length (rates_of a))).fitted) (cond b no_delay (delay_at of_integrated (integrated_position a)))
+  by_long : (b : Bool) → Keeps a (status_of (fit_long b (rates_of a) (moments_of a) a.duration (length (rates_of a))).model) (cond b no_delay (delay_at of_integrated (integrated_position a)))
   unfolding fit_long no_model searched
   by_long true = unexcited a
   by_long false =

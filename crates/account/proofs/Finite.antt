@@ -6,8 +6,7 @@ use native.Mathlib.Omega.{arith}
 use Rattle.delay.specs.declared.RateModel.{RateModel}
 use Rattle.recorded.specs.declared.Classified.{Classified}
 use Rattle.recorded.specs.declared.Classified.TheVariants.{Recorded, Integrated, Unexcited, Saturated}
-use Rattle.integrated.specs.declared.Fitted.{Fitted}
-use Rattle.integrated.specs.declared.Fitted.TheVariants.{Nothing, Model}
+use Rattle.std.specs.Prelude.{Option, Some, None}
 use Rattle.integrated.specs.Integrated.{fit_integrated}
 use Rattle.finite_model.specs.FiniteModel.{FiniteModel}
 use Rattle.finite_model.proofs.Multiples.{NonNegative}
@@ -17,9 +16,9 @@ use Rattle.account.specs.Probe.{finished, status_of, stands}
 use Rattle.account.specs.Account.{Account, rates_of, moments_of, account_class}
 use Rattle.account.proofs.Follow.{stands_of}
 
-modelled : (f : Fitted) (m : RateModel) → status_of f ≡ status.Done m → f ≡ Model m
-modelled (Model n) m e = cc
-modelled Nothing m e = absurd (let z : ◌≡◌ {A = ℕ} 0 1 = cc in omega arith)
+modelled : (f : Option RateModel) (m : RateModel) → status_of f ≡ status.Done m → f ≡ Some m
+modelled (Some n) m e = cc
+modelled None m e = absurd (let z : ◌≡◌ {A = ℕ} 0 1 = cc in omega arith)
 
 module _ (a : Account) where
   fitted_by : (x : Classified) (m : RateModel) → (finished x (rates_of a) (moments_of a) a.duration).status ≡ status.Done m
@@ -38,7 +37,7 @@ module _ (a : Account) where
 
   finite_of : (x : Classified) (m : RateModel) → NonNegative a.duration → (finished x (rates_of a) (moments_of a) a.duration).status ≡ status.Done m → x ≡ Integrated → FiniteModel m
   unfolding finished
-  finite_of Integrated m d e h = integrated_finite (rates_of a) (moments_of a) a.duration m d (modelled (fit_integrated (rates_of a) (moments_of a) a.duration).fitted m e)
+  finite_of Integrated m d e h = integrated_finite (rates_of a) (moments_of a) a.duration m d (modelled (fit_integrated (rates_of a) (moments_of a) a.duration).model m e)
   finite_of (Recorded n) m d e h = absurd (let z : ◌≡◌ {A = ℕ} 0 1 = cc in omega arith)
   finite_of Unexcited m d e h = absurd (let z : ◌≡◌ {A = ℕ} 0 1 = cc in omega arith)
   finite_of Saturated m d e h = absurd (let z : ◌≡◌ {A = ℕ} 0 1 = cc in omega arith)

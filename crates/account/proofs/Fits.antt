@@ -7,16 +7,13 @@ use lib.Dec.{leb}
 use lib.ListN.{length}
 use lib.Ieee.{Float}
 use Rattle.float.specs.Values.{zero32}
-use Rattle.delay.specs.declared.Position.{Position}
-use Rattle.delay.specs.declared.Position.TheVariants.{Nowhere, At}
+use Rattle.std.specs.Prelude.{Option, Some, None}
 use Rattle.delay.specs.Tie.{delay_to_fit}
 use Rattle.recorded.specs.declared.Classified.{Classified}
 use Rattle.recorded.specs.declared.Classified.TheVariants.{Recorded, Integrated, Unexcited, Saturated}
 use Rattle.recorded.specs.Classify.{classify}
 use Rattle.gain.specs.declared.GainFit.{GainFit}
 use Rattle.gain.specs.Gain.{first_tick}
-use Rattle.grid.specs.declared.Kept.{Kept}
-use Rattle.grid.specs.declared.Kept.TheVariants.{Empty, Best}
 use Rattle.grid.specs.declared.LagFit.{LagFit}
 use Rattle.golden.specs.Golden.{Round, over, on, tried, left_of, right_of, onward, golden, refined, max_rounds}
 use Rattle.grid.specs.Grid.{kept_at}
@@ -24,27 +21,27 @@ use Rattle.integrated.specs.Integrated.{modelled, no_model, chosen_from, chosen_
 use Rattle.integrated.specs.Integrated as integrated
 use Rattle.account.specs.Probe.{finished, stands}
 
-goes_on : (r : Round) (fit : Float → GainFit) (n made : ℕ) (best : LagFit)
+goes_on : (r : Round) (fit : Float → Option GainFit) (n made : ℕ) (best : LagFit)
     → ((low high : Float) (b : LagFit) → (golden fit n low high b (suc made)).rounds ≤ suc made + n)
     → (onward r (λ l h b. golden fit n l h b (suc made)) (record { best = best; rounds = suc made })).rounds ≤ made + suc n
 goes_on over fit n made best h = omega arith
 goes_on (on low high b) fit n made best h = omega (arith, h low high b)
 
-rounds : (fit : Float → GainFit) (n : ℕ) (low high : Float) (best : LagFit) (made : ℕ) → (golden fit n low high best made).rounds ≤ made + n
+rounds : (fit : Float → Option GainFit) (n : ℕ) (low high : Float) (best : LagFit) (made : ℕ) → (golden fit n low high best made).rounds ≤ made + n
 unfolding golden
 rounds fit zero low high best made = omega arith
 rounds fit (suc n) low high best made =
     goes_on (tried low high best (fit (left_of low high)) (fit (right_of low high))) fit n made best (λ l h b. rounds fit n l h b (suc made))
 
-from_fits : (k : Kept) (fit : Float → GainFit) (p : ℕ) (dt : Float) → (chosen_from k fit p dt).gain_fits ≤ 2604
+from_fits : (k : Option LagFit) (fit : Float → Option GainFit) (p : ℕ) (dt : Float) → (chosen_from k fit p dt).gain_fits ≤ 2604
 unfolding chosen_from no_model modelled refined
-from_fits Empty fit p dt = omega arith
-from_fits (Best b) fit p dt = omega (arith, rounds fit max_rounds b.low b.high b 0)
+from_fits None fit p dt = omega arith
+from_fits (Some b) fit p dt = omega (arith, rounds fit max_rounds b.low b.high b 0)
 
-at_fits : (q : Position) (dt : Float) (fit : ℕ → Float → GainFit) → (chosen_at q dt fit).gain_fits ≤ 2604
+at_fits : (q : Option ℕ) (dt : Float) (fit : ℕ → Float → Option GainFit) → (chosen_at q dt fit).gain_fits ≤ 2604
 unfolding chosen_at no_model
-at_fits Nowhere dt fit = omega arith
-at_fits (At p) dt fit = from_fits (kept_at dt fit (p - 1)) (fit (p - 1)) p dt
+at_fits None dt fit = omega arith
+at_fits (Some p) dt fit = from_fits (kept_at dt fit (p - 1)) (fit (p - 1)) p dt
 
 long_fits : (b : Bool) (rates moments : List Float) (duration : Float) (n : ℕ) → (fit_long b rates moments duration n).gain_fits ≤ 2604
 unfolding fit_long no_model searched

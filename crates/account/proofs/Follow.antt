@@ -2,7 +2,7 @@
 use Prim.Native.Nat.{ℕ, zero, suc}
 use mathlib.Core.Path.{◌≡◌, refl, sym, ap₂, subst}
 use mathlib.Core.Bool.{Bool, true, false, not, ◌&&◌, ◌||◌, cond}
-use mathlib.Core.Option.{Option, none, some}
+use Rattle.std.specs.Prelude.{Option, Some, None}
 use mathlib.Core.List.{List, [], ◌∷◌, ◌++◌, map, map-append}
 use lib.ListN.{length, length-map}
 use lib.Ieee.{Float, binary32, add, lt}
@@ -11,12 +11,10 @@ use Rattle.sweep.specs.Sweep.{next_sweep}
 use Rattle.window.specs.Samples.{Samples, no_samples, push, room, last_of, hold, bad, store}
 use Rattle.recorded.specs.declared.Classified.{Classified}
 use Rattle.recorded.specs.declared.Classified.TheVariants.{Recorded, Integrated, Unexcited, Saturated}
-use Rattle.integrated.specs.declared.Fitted.{Fitted}
-use Rattle.integrated.specs.declared.Fitted.TheVariants as fitted
+use Rattle.delay.specs.declared.RateModel.{RateModel}
 use Rattle.integrated.specs.Integrated.{fit_integrated}
 use Rattle.account.specs.declared.IdentifyConfig.{IdentifyConfig}
-use Rattle.account.specs.declared.Noisy.{Noisy}
-use Rattle.account.specs.declared.Noisy.TheVariants.{Absent, Present}
+use Rattle.account.specs.declared.IdentifyExtension.{IdentifyExtension}
 use Rattle.account.specs.Probe.{Call, Probe, Standing, Closing, clock, finished, status_of, stands, takes, extend, close, tick, answer, step, fresh_at, after, replies, number}
 use Rattle.account.specs.Account.{Account, Entry, blank, opened, account, entry, counted, Going, is_integrated, judged, ended, accept, continue, next, turned, turned_back, time, rates_of, moments_of, marks_of, account_class}
 
@@ -52,15 +50,15 @@ stored a c o x =
     simp (length-map, map_push, hold, bad, either, last_map (λ (e : Entry). e.rate) a.entries blank, last_map (λ (e : Entry). e.moment) a.entries blank)
 
 -- ---- an ended probe has no clock
-fit_clock : (f : Fitted) → clock (status_of f) ≡ none
+fit_clock : (f : Option RateModel) → clock (status_of f) ≡ None
 unfolding clock
-fit_clock fitted.Nothing = refl
-fit_clock (fitted.Model m) = refl
+fit_clock None = refl
+fit_clock (Some m) = refl
 
-end_clock : (x : Classified) (rates moments : List Float) (d : Float) → clock (finished x rates moments d).status ≡ none
+end_clock : (x : Classified) (rates moments : List Float) (d : Float) → clock (finished x rates moments d).status ≡ None
 unfolding clock finished
 end_clock (Recorded m) rates moments d = refl
-end_clock Integrated rates moments d = fit_clock (fit_integrated rates moments d).fitted
+end_clock Integrated rates moments d = fit_clock (fit_integrated rates moments d).model
 end_clock Unexcited rates moments d = refl
 end_clock Saturated rates moments d = refl
 
@@ -74,13 +72,13 @@ module _ (a : Account) (o : List Float) (s : SquareSweep) where
   abbrev Agrees : Closing → Going → Type 0
   Agrees z g = z ≡ record { end = g.end; unused = g.unused; sweep = z.sweep; standing = stands_of g.running a }
 
-  judges : (asked : Bool) (x : Classified) (u : Noisy)
+  judges : (asked : Bool) (x : Classified) (u : Option IdentifyExtension)
       → Agrees (extend a.elapsed (samples_of a o) (takes asked x u) a.end u s) (judged (asked || is_integrated x) u a)
   unfolding extend takes judged is_integrated
-  judges true x (Present e) = refl
-  judges true x Absent = refl
-  judges false Integrated (Present e) = refl
-  judges false Integrated Absent = refl
+  judges true x (Some e) = refl
+  judges true x None = refl
+  judges false Integrated (Some e) = refl
+  judges false Integrated None = refl
   judges false (Recorded m) u = refl
   judges false Unexcited u = refl
   judges false Saturated u = refl
@@ -111,8 +109,8 @@ answers zero true a s o c = ticks a s o c
 pub numbers : (n : ℕ) (t : Option Float) (p : Probe) (c : Call) → number (answer n t p c).reply ≡ n
 unfolding answer number tick
 numbers (suc n) t p c = refl
-numbers zero none p c = refl
-numbers zero (some e) p c = refl
+numbers zero None p c = refl
+numbers zero (Some e) p c = refl
 
 pub one : (p : Probe) (a : Account) (c : Call) → Follows p a → Follows (step p c).probe (next a c)
 unfolding step next turned

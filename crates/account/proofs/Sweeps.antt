@@ -2,7 +2,7 @@
 use Prim.Native.Nat.{ℕ, zero, suc}
 use mathlib.Core.Path.{◌≡◌, refl}
 use mathlib.Core.Bool.{Bool, true, false, cond}
-use mathlib.Core.Option.{Option, none, some}
+use Rattle.std.specs.Prelude.{Option, Some, None}
 use mathlib.Core.List.{List, [], ◌∷◌}
 use native.Mathlib.Omega.{arith}
 use lib.Dec.{leb}
@@ -14,13 +14,12 @@ use Rattle.sweep.proofs.Edges.{Safe, safe_start, safe_next, safe_amplitude}
 use Rattle.window.specs.Samples.{Samples, store}
 use Rattle.recorded.specs.Classify.{classify}
 use Rattle.account.specs.declared.IdentifyConfig.{IdentifyConfig}
-use Rattle.account.specs.declared.Noisy.{Noisy}
-use Rattle.account.specs.declared.Noisy.TheVariants.{Absent, Present}
+use Rattle.account.specs.declared.IdentifyExtension.{IdentifyExtension}
 use Rattle.account.specs.Rules.{positive, overrun, refusal}
 use Rattle.account.specs.Probe.{Call, Probe, clock, takes, extend, close, tick, answer, step, fresh_at, after}
 
 -- a call that rules 6 and 7 let pass
-pub passed : (e : Float) (ticks : ℕ) (dt : Float) → refusal (some e) ticks dt ≡ 0 → (positive dt ≡ true) × (lt (whole32 4096) (add binary32 e dt) ≡ false)
+pub passed : (e : Float) (ticks : ℕ) (dt : Float) → refusal (Some e) ticks dt ≡ 0 → (positive dt ≡ true) × (lt (whole32 4096) (add binary32 e dt) ≡ false)
 unfolding refusal overrun
 passed e ticks dt = go (positive dt) (lt (whole32 4096) (add binary32 e dt)) (leb 16_777_216 ticks)
   where
@@ -29,16 +28,16 @@ passed e ticks dt = go (positive dt) (lt (whole32 4096) (add binary32 e dt)) (le
     go true true m h = absurd (omega arith)
     go true false m h = (refl, refl)
 
-pub in_time : (e : Float) (ticks : ℕ) (dt : Float) → refusal (some e) ticks dt ≡ 0 → lt (whole32 4096) (add binary32 e dt) ≡ false
+pub in_time : (e : Float) (ticks : ℕ) (dt : Float) → refusal (Some e) ticks dt ≡ 0 → lt (whole32 4096) (add binary32 e dt) ≡ false
 in_time e ticks dt h = (passed e ticks dt h).1
 
 module _ (now : Float) (w : Samples) where
-  extends : (x : Noisy) (end : Float) (u : Noisy) (s : SquareSweep) → Safe s → Safe (extend now w x end u s).sweep
+  extends : (x : Option IdentifyExtension) (end : Float) (u : Option IdentifyExtension) (s : SquareSweep) → Safe s → Safe (extend now w x end u s).sweep
   unfolding extend
-  extends Absent end u s h = h
-  extends (Present x) end u s h = safe_amplitude s x.amplitude h
+  extends None end u s h = h
+  extends (Some x) end u s h = safe_amplitude s x.amplitude h
 
-  closes : (asked r : Bool) (end : Float) (u : Noisy) (s : SquareSweep) → Safe s → Safe (close now w asked r end u s).sweep
+  closes : (asked r : Bool) (end : Float) (u : Option IdentifyExtension) (s : SquareSweep) → Safe s → Safe (close now w asked r end u s).sweep
   unfolding close
   closes asked true end u s h = h
   closes asked false end u s h = extends (takes asked (classify w.rates w.moments w.marks w.duration) u) end u s h
@@ -54,8 +53,8 @@ ticks e p c h s =
 answers : (n : ℕ) (t : Option Float) (p : Probe) (c : Call) → refusal t p.ticks c.dt ≡ n → Safe p.sweep → Safe (answer n t p c).probe.sweep
 unfolding answer
 answers (suc n) t p c h s = s
-answers zero none p c h s = s
-answers zero (some e) p c h s = ticks e p c (in_time e p.ticks c.dt h) s
+answers zero None p c h s = s
+answers zero (Some e) p c h s = ticks e p c (in_time e p.ticks c.dt h) s
 
 pub safe : (cs : List Call) (p : Probe) → Safe p.sweep → Safe (after p cs).sweep
 unfolding step

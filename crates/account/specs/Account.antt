@@ -1,6 +1,6 @@
 -- The account of a list of steps: 01's section of that name. It is fed the configuration and the calls, and nothing from the probe.
 use Rattle.std.specs.Prelude.{ℕ, zero, suc, ◌+◌, Bool, true, false, not, ◌||◌, cond, ltb, length, Float}
-use Rattle.std.proofs.Math.Option.{Option, none, some}
+use Rattle.std.specs.Prelude.{Option, Some, None}
 use mathlib.Core.List.{List, [], ◌∷◌, ◌++◌, map, foldl}
 use Rattle.std.specs.Float.{binary32}
 use Rattle.std.specs.Float.Ieee.{add, lt}
@@ -11,8 +11,7 @@ use Rattle.recorded.specs.declared.Classified.{Classified}
 use Rattle.recorded.specs.declared.Classified.TheVariants.{Recorded, Integrated, Unexcited, Saturated}
 use Rattle.recorded.specs.Classify.{classify}
 use Rattle.account.specs.declared.IdentifyConfig.{IdentifyConfig}
-use Rattle.account.specs.declared.Noisy.{Noisy}
-use Rattle.account.specs.declared.Noisy.TheVariants.{Absent, Present}
+use Rattle.account.specs.declared.IdentifyExtension.{IdentifyExtension}
 use Rattle.account.specs.Rules.{refusal}
 use Rattle.account.specs.Probe.{Call}
 
@@ -27,7 +26,7 @@ pub record Account : Type 0 where
   pub entries : List Entry
   pub duration : Float
   pub end : Float
-  pub unused : Noisy
+  pub unused : Option IdentifyExtension
   pub running : Bool
 
 -- the entries' rates, moments and marks, in their order
@@ -85,7 +84,7 @@ counted a c =
 -- how an accepted call leaves the account's end
 pub record Going : Type 0 where
   pub end : Float
-  pub unused : Noisy
+  pub unused : Option IdentifyExtension
   pub running : Bool
 
 -- whether a class is "integrated"
@@ -97,9 +96,9 @@ is_integrated Saturated = false
 
 -- "'Integrated' with an unused extension makes the extension's duration the end time and uses it, and elapsed below that goes on; all else ends the account."
 -- First whether the class is that one, or the other axis asks for the extension.
-unfoldable pub judged : Bool → Noisy → Account → Going
-judged true (Present x) a = record { end = x.duration_s; unused = Absent; running = lt a.elapsed x.duration_s }
-judged true Absent a = record { end = a.end; unused = Absent; running = false }
+unfoldable pub judged : Bool → Option IdentifyExtension → Account → Going
+judged true (Some x) a = record { end = x.duration_s; unused = None; running = lt a.elapsed x.duration_s }
+judged true None a = record { end = a.end; unused = None; running = false }
 judged false unused a = record { end = a.end; unused = unused; running = false }
 
 -- "If elapsed is then below the end time, the account goes on. Otherwise its entries are classified as above." Whether the other axis asks, and whether elapsed is below.
@@ -124,8 +123,8 @@ accept a c =
 
 -- the elapsed time of an account, while it runs
 unfoldable pub time : Bool → Account → Option Float
-time true a = some a.elapsed
-time false a = none
+time true a = Some a.elapsed
+time false a = None
 
 -- the number of the rule, "6, 7 or 8 .. on the account's numbers", that turns a call back, 0 if none
 unfoldable pub turned : Account → Call → ℕ

@@ -11,8 +11,7 @@ use Rattle.window.specs.Walk.{many, is_held, is_warm, is_row}
 use Rattle.window.specs.Runs.{held_of, rows_of, warm_of, beyond}
 use Rattle.delay.specs.declared.Delay.{Delay}
 use Rattle.delay.specs.declared.RateModel.{RateModel}
-use Rattle.delay.specs.declared.Position.{Position}
-use Rattle.delay.specs.declared.Position.TheVariants.{Nowhere, At}
+use Rattle.std.specs.Prelude.{Option, Some, None}
 use Rattle.delay.specs.HalfTicks.{of_recorded, of_integrated, no_delay}
 use Rattle.delay.specs.Tie.{delay_to_fit}
 use Rattle.rows.specs.Rows.{regressors, sums_by, sum_ticks, window_sums, no_sums}
@@ -32,10 +31,10 @@ use Rattle.account.specs.Probe.{Call, Probe, clock, delay_of, stands, fresh_at, 
 use Rattle.account.specs.Account.{Account, opened, account, turned, turned_back, accepted, time, rates_of, moments_of, marks_of, account_class, runs_of}
 
 -- the position that the tie rule gives for the account's entries, in the recorded fit and in the integrated one
-abbrev pub recorded_position : Account → Position
+abbrev pub recorded_position : Account → Option ℕ
 recorded_position a = delay_to_fit tie_share (recorded.entries (solved_at (rates_of a) (moments_of a) (marks_of a)))
 
-abbrev pub integrated_position : Account → Position
+abbrev pub integrated_position : Account → Option ℕ
 integrated_position a =
     let n = length (rates_of a) in
     let dt = mean_dt a.duration n in
@@ -43,13 +42,13 @@ integrated_position a =
 
 -- "The delay, counted in half ticks as 2·p from the recorded fit and p + 1 from the integrated one"
 pub data Delayed (a : Account) (m : RateModel) : Type 0 where
-  by_recorded : (p : ℕ) → recorded_position a ≡ At p → m.delay ≡ of_recorded p → Delayed a m
-  by_integrated : (p : ℕ) → integrated_position a ≡ At p → m.delay ≡ of_integrated p → Delayed a m
+  by_recorded : (p : ℕ) → recorded_position a ≡ Some p → m.delay ≡ of_recorded p → Delayed a m
+  by_integrated : (p : ℕ) → integrated_position a ≡ Some p → m.delay ≡ of_integrated p → Delayed a m
 
 -- the delay at the position that won, if one did
-unfoldable pub delay_at : (ℕ → Delay) → Position → Delay
-delay_at from Nowhere = no_delay
-delay_at from (At p) = from p
+unfoldable pub delay_at : (ℕ → Delay) → Option ℕ → Delay
+delay_at from None = no_delay
+delay_at from (Some p) = from p
 
 -- by the class of the account's window: an abort has none, nor has an integrated fit with "stored <= 12"
 unfoldable pub delay_by : Classified → Account → Delay

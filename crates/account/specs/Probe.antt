@@ -1,6 +1,5 @@
 -- The probe: its step, its status and its end: 01, "One tick, from dt to offset". Here the window's samples are lists in the probe.
-use Rattle.std.specs.Prelude.{ℕ, zero, suc, Bool, true, false, Float}
-use Rattle.std.proofs.Math.Option.{Option, none, some}
+use Rattle.std.specs.Prelude.{ℕ, zero, suc, Bool, true, false, Float, Option, Some, None}
 use mathlib.Core.List.{List, [], ◌∷◌, foldl}
 use Rattle.std.specs.Float.{binary32}
 use Rattle.std.specs.Float.Ieee.{add, lt}
@@ -13,12 +12,10 @@ use Rattle.delay.specs.HalfTicks.{no_delay}
 use Rattle.recorded.specs.declared.Classified.{Classified}
 use Rattle.recorded.specs.declared.Classified.TheVariants.{Recorded, Integrated, Unexcited, Saturated}
 use Rattle.recorded.specs.Classify.{classify}
-use Rattle.integrated.specs.declared.Fitted.{Fitted}
-use Rattle.integrated.specs.declared.Fitted.TheVariants as fitted
+use Rattle.delay.specs.declared.RateModel.{RateModel}
 use Rattle.integrated.specs.Integrated.{fit_integrated}
 use Rattle.account.specs.declared.IdentifyConfig.{IdentifyConfig}
-use Rattle.account.specs.declared.Noisy.{Noisy}
-use Rattle.account.specs.declared.Noisy.TheVariants.{Absent, Present}
+use Rattle.account.specs.declared.IdentifyExtension.{IdentifyExtension}
 use Rattle.account.specs.declared.IdentifyStatus.{IdentifyStatus}
 use Rattle.account.specs.declared.IdentifyStatus.TheVariants as status
 use Rattle.account.specs.Rules.{refusal}
@@ -55,16 +52,16 @@ pub record Probe : Type 0 where
   pub samples : Samples
   -- the end time, and the extension that is not used yet
   pub end : Float
-  pub unused : Noisy
+  pub unused : Option IdentifyExtension
   pub sweep : SquareSweep
   pub standing : Standing
 
 -- the elapsed time, while it runs
 unfoldable pub clock : IdentifyStatus → Option Float
-clock (status.Running e) = some e
-clock (status.Done m) = none
-clock status.Unexcited = none
-clock status.Saturated = none
+clock (status.Running e) = Some e
+clock (status.Done m) = None
+clock status.Unexcited = None
+clock status.Saturated = None
 
 -- the delay that is kept: "0 unless done"
 unfoldable pub delay_of : IdentifyStatus → Delay
@@ -89,16 +86,16 @@ abbrev pub fresh : IdentifyConfig → Probe
 fresh c = fresh_at true c
 
 -- "the model once done", or Unexcited
-abbrev pub status_of : Fitted → IdentifyStatus
-status_of (fitted.Model m) = status.Done m
-status_of fitted.Nothing = status.Unexcited
+abbrev pub status_of : Option RateModel → IdentifyStatus
+status_of (Some m) = status.Done m
+status_of None = status.Unexcited
 
 -- where a window's class leads, from its rates, moments and duration
 unfoldable pub finished : Classified → List Float → List Float → Float → Standing
 finished (Recorded m) rates moments duration = record { status = status.Done m; fits = 0 }
 finished Integrated rates moments duration =
     let f = fit_integrated rates moments duration in
-    record { status = status_of f.fitted; fits = f.gain_fits }
+    record { status = status_of f.model; fits = f.gain_fits }
 finished Unexcited rates moments duration = record { status = status.Unexcited; fits = 0 }
 finished Saturated rates moments duration = record { status = status.Saturated; fits = 0 }
 
@@ -111,33 +108,33 @@ abbrev pub stands_with : Bool → Float → Samples → Standing
 stands_with running elapsed w = stands running elapsed w.rates w.moments w.marks w.duration
 
 -- the extension that a class takes: "If the answer is 'integrated' and an unused extension exists"; where the other axis asks, any class takes it
-unfoldable pub takes : Bool → Classified → Noisy → Noisy
+unfoldable pub takes : Bool → Classified → Option IdentifyExtension → Option IdentifyExtension
 takes true class unused = unused
-takes false (Recorded m) unused = Absent
+takes false (Recorded m) unused = None
 takes false Integrated unused = unused
-takes false Unexcited unused = Absent
-takes false Saturated unused = Absent
+takes false Unexcited unused = None
+takes false Saturated unused = None
 
 -- what the end of a tick decides
 pub record Closing : Type 0 where
   pub end : Float
-  pub unused : Noisy
+  pub unused : Option IdentifyExtension
   pub sweep : SquareSweep
   pub standing : Standing
 
 module _ (now : Float) (w : Samples) where
   -- "take its duration and amplitude (for later ticks), and go on if elapsed is below it; otherwise finish"
-  unfoldable pub extend : Noisy → Float → Noisy → SquareSweep → Closing
-  extend Absent end unused s = record { end = end; unused = unused; sweep = s; standing = stands_with false now w }
-  extend (Present x) end unused s = record {
+  unfoldable pub extend : Option IdentifyExtension → Float → Option IdentifyExtension → SquareSweep → Closing
+  extend None end unused s = record { end = end; unused = unused; sweep = s; standing = stands_with false now w }
+  extend (Some x) end unused s = record {
     end = x.duration_s;
-    unused = Absent;
+    unused = None;
     sweep = with_amplitude s x.amplitude;
     standing = stands_with (lt now x.duration_s) now w;
   }
 
   -- "Elapsed below duration_s: go on. Otherwise classify." Whether the other axis asks, and whether elapsed is below.
-  unfoldable pub close : Bool → Bool → Float → Noisy → SquareSweep → Closing
+  unfoldable pub close : Bool → Bool → Float → Option IdentifyExtension → SquareSweep → Closing
   close asked true end unused s = record { end = end; unused = unused; sweep = s; standing = stands_with true now w }
   close asked false end unused s = extend (takes asked (classify w.rates w.moments w.marks w.duration) unused) end unused s
 
@@ -167,8 +164,8 @@ tick e p c =
 -- "6 to 8 leave the probe unchanged and count no tick"; "An ended probe answers 0.0 to a good dt, unchanged."
 unfoldable pub answer : ℕ → Option Float → Probe → Call → Step
 answer (suc n) e p c = record { probe = p; reply = refused (suc n) }
-answer zero none p c = record { probe = p; reply = offset zero32 }
-answer zero (some e) p c = tick e p c
+answer zero None p c = record { probe = p; reply = offset zero32 }
+answer zero (Some e) p c = tick e p c
 
 unfoldable pub step : Probe → Call → Step
 step p c = let e = clock p.standing.status in answer (refusal e p.ticks c.dt) e p c

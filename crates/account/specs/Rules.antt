@@ -1,12 +1,11 @@
 -- The rules that a configuration or a call can break, and the number of the first one broken: 01, "A call turned back".
 use Rattle.std.specs.Prelude.{ℕ, Bool, not, ◌&&◌, ◌||◌, cond, leb, Float}
-use Rattle.std.proofs.Math.Option.{Option, none, some}
+use Rattle.std.specs.Prelude.{Option, Some, None}
 use Rattle.std.specs.Float.{binary32}
 use Rattle.std.specs.Float.Ieee.{add, lt, eq}
 use Rattle.float.specs.Values.{zero32, whole32, finite}
 use Rattle.account.specs.declared.IdentifyConfig.{IdentifyConfig}
-use Rattle.account.specs.declared.Noisy.{Noisy}
-use Rattle.account.specs.declared.Noisy.TheVariants.{Absent, Present}
+use Rattle.account.specs.declared.IdentifyExtension.{IdentifyExtension}
 
 -- "positive and finite"
 unfoldable pub positive : Float → Bool
@@ -22,9 +21,9 @@ too_long x = lt (whole32 3600) x
 
 -- "4: extension amplitude zero or not finite. 5: extension duration not finite, below duration_s, or above 3,600."
 -- "Without an extension, 4 and 5 are not tested."
-unfoldable pub broken_extension : Float → Noisy → ℕ
-broken_extension duration Absent = 0
-broken_extension duration (Present x) =
+unfoldable pub broken_extension : Float → Option IdentifyExtension → ℕ
+broken_extension duration None = 0
+broken_extension duration (Some x) =
     cond (not (non_zero x.amplitude)) 4
     (cond (not (finite x.duration_s) || lt x.duration_s duration || too_long x.duration_s) 5 0)
 
@@ -40,8 +39,8 @@ broken c =
 -- "7: still running and f32 elapsed_s + dt above 4,096. 8: still running with 16,777,216 ticks."
 -- The elapsed time is there while the probe runs.
 unfoldable pub overrun : Option Float → ℕ → Float → ℕ
-overrun none ticks dt = 0
-overrun (some elapsed) ticks dt = cond (lt (whole32 4096) (add binary32 elapsed dt)) 7 (cond (leb 16_777_216 ticks) 8 0)
+overrun None ticks dt = 0
+overrun (Some elapsed) ticks dt = cond (lt (whole32 4096) (add binary32 elapsed dt)) 7 (cond (leb 16_777_216 ticks) 8 0)
 
 -- "6: dt not positive and finite, also after the end". The first of the rules 6 to 8 that a call breaks, 0 if none.
 unfoldable pub refusal : Option Float → ℕ → Float → ℕ

@@ -5,17 +5,17 @@ ghost use Rattle.std.specs.Prelude.{◌≡◌};
 ghost use Rattle.wire.specs.Words.{word_at};
 ghost use Rattle.byte_config.specs.ByteConfig.{extension_of, config_of};
 
-use account::{IdentifyConfig, IdentifyExtension, Noisy};
+use account::{IdentifyConfig, IdentifyExtension};
 
 // The extension of a configuration: a flag at byte 12 that is not 0, then its amplitude and its duration.
-fn extension_of(config: &[u8]) -> Noisy
+fn extension_of(config: &[u8]) -> Option<IdentifyExtension>
     ensures { result ≡ extension_of (word_at config.now 12) config.now }
 {
     let flag = wire::read_word(config, 12);
     if flag == 0 {
-        return Noisy::Absent;
+        return None;
     }
-    Noisy::Present(IdentifyExtension {
+    Some(IdentifyExtension {
         amplitude: wire::read_float(config, 16),
         duration_s: wire::read_float(config, 20),
     })

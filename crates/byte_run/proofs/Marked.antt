@@ -28,8 +28,7 @@ use lib.Ieee.{inf, of_bits, to_bits, of_int, add, sub, mul, div, neg, lt, le, eq
 use Rattle.sweep.proofs.Marked as sweep
 use Rattle.delay.proofs.Marked as delay
 use Rattle.window.proofs.Marked as window
-use Rattle.delay.specs.declared.Entry.TheVariants.{Missing, Fit}
-use Rattle.delay.specs.declared.Position.TheVariants.{Nowhere, At}
+use Rattle.std.specs.Prelude.{Some, None}
 
 -- amplitude 1, duration 1, washout 0.5, flag 0
 unfoldable pub m1_config : List ℕ
@@ -52,12 +51,12 @@ pub record Marked : Type 0 where
   pub M1 : byte_run m1_config (m1_call ++ (m1_call ++ (m1_call ++ m1_call))) (replicate 52 0xee) ≡ m1_ran
   pub M2 : half_period 0 ≡ one32
   pub M3 : half_period 14 ≡ half_period 9
-  pub M4 : delay_to_fit zero32 [] ≡ Nowhere
-  pub M5 : delay_to_fit zero32 (Fit one32 delay.one_and_quarter ∷ Fit one32 one32 ∷ []) ≡ At 2
-  pub M6 : delay_to_fit delay.hundredth (Fit one32 delay.just_above_one ∷ Fit one32 one32 ∷ []) ≡ At 1
-  pub M7 : delay_to_fit zero32 (Fit delay.minus_one delay.half ∷ Fit one32 delay.two ∷ []) ≡ At 2
-  pub M8 : delay_to_fit zero32 (Fit one32 (inf false) ∷ []) ≡ Nowhere
-  pub M9 : delay_to_fit zero32 (replicate 20 Missing ++ (Fit one32 one32 ∷ [])) ≡ Nowhere
+  pub M4 : delay_to_fit zero32 [] ≡ None
+  pub M5 : delay_to_fit zero32 (delay.entry one32 delay.one_and_quarter ∷ delay.entry one32 one32 ∷ []) ≡ Some 2
+  pub M6 : delay_to_fit delay.hundredth (delay.entry one32 delay.just_above_one ∷ delay.entry one32 one32 ∷ []) ≡ Some 1
+  pub M7 : delay_to_fit zero32 (delay.entry delay.minus_one delay.half ∷ delay.entry one32 delay.two ∷ []) ≡ Some 2
+  pub M8 : delay_to_fit zero32 (delay.entry one32 (inf false) ∷ []) ≡ None
+  pub M9 : delay_to_fit zero32 (replicate 20 None ++ (delay.entry one32 one32 ∷ [])) ≡ None
   pub M10 : length (rows_of (good_runs (replicate 11 false))) ≡ 0
   pub M11 : length (rows_of (good_runs (replicate 12 false))) ≡ 1
   pub M12 : (held_of window.broken ≡ 1) × (warm_of (good_runs window.broken) ≡ 22) × (length (rows_of (good_runs window.broken)) ≡ 3)

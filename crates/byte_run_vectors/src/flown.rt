@@ -18,14 +18,8 @@ fn word_by(number: u32, offset: f32) -> u32 {
 }
 
 // The byte of each mark.
-fn bytes_of(held: &[bool; 2048]) -> [u8; 2048] {
-    let mut marks = [0u8; 2048];
-    for k in 0..2048usize {
-        if held[k] {
-            marks[k] = 1;
-        }
-    }
-    marks
+fn bytes_of(held: [bool; 2048]) -> [u8; 2048] {
+    held.map(u8::from)
 }
 
 // A run of one axis, answered as `byte_run` answers it.
@@ -79,7 +73,7 @@ pub fn one_axis(options: u32, config: &[u8], calls: &[u8], output: &mut [u8]) ->
         );
         write_word(output, 36 + 4 * k, word_by(answer, offset));
     }
-    live_probe::report(&words, &floats, &rates, &bytes_of(&held), output);
+    live_probe::report(&words, &floats, &rates, &bytes_of(held), output);
     0
 }
 
@@ -157,11 +151,11 @@ pub fn two_axes(options: u32, config: &[u8], calls: &[u8], output: &mut [u8]) ->
         &words1,
         &floats1,
         &rates1,
-        &bytes_of(&held1),
+        &bytes_of(held1),
         &words2,
         &floats2,
         &rates2,
-        &bytes_of(&held2),
+        &bytes_of(held2),
         output,
     );
     0

@@ -11,86 +11,42 @@ use std::rt::Files;
 use vectors::{part, replay};
 use wire::read_word;
 
-// How a run is made: over bytes, or flown with the options of its opening.
-#[derive(Clone, Copy)]
-enum Way {
-    Bytes,
-    TwoAxisBytes,
-    Flown(u32),
-    TwoAxesFlown(u32),
-}
-
 // ---- the output
 
-// An output before a run: byte k is 31·k + 165 mod 256.
-fn fill(output: &mut [u8]) {
-    let mut b: u8 = 165;
-    for k in 0..output.len() {
-        output[k] = b;
-        b = std::num::wrapping_add_u8(b, 31);
-    }
-}
-
-// Byte k, or another where there is none.
-fn byte_or(s: &[u8], k: usize, other: u8) -> u8 {
-    if k < s.len() { s[k] } else { other }
+// Byte k of an output before a run: 31·k + 165 mod 256.
+fn filled(k: usize) -> u8 {
+    ((31 * (k % 256) + 165) % 256) as u8
 }
 
 // Whether an output begins with the expected bytes, and after them is as it was filled.
 fn holds(output: &[u8], expected: &[u8]) -> bool {
-    let mut b: u8 = 165;
-    let mut ok = true;
-    for k in 0..output.len() {
-        ok = ok & (output[k] == byte_or(expected, k, b));
-        b = std::num::wrapping_add_u8(b, 31);
-    }
-    ok
+    output.iter().enumerate().all(|(k, &b)| b == expected.get(k).copied().unwrap_or(filled(k)))
 }
 
 // ---- a run
 
-fn run(by: Way, config: &[u8], calls: &[u8], output: &mut [u8]) -> u32 {
-    match by {
-        Way::Bytes => byte_run::byte_run(config, calls, output),
-        Way::TwoAxisBytes => two_axis_run::two_axis_run(config, calls, output),
-        Way::Flown(options) => flown::one_axis(options, config, calls, output),
-        Way::TwoAxesFlown(options) => flown::two_axes(options, config, calls, output),
-    }
-}
-
-// Whether a run answers the result and writes the expected bytes and no others.
-fn run_agrees(
-    by: Way,
-    config: &[u8],
-    calls: &[u8],
-    res: u32,
-    expected: &[u8],
-    output: &mut [u8],
-) -> bool {
-    fill(output);
-    let n = expected.len();
-    if output.len() < n {
-        return false;
-    }
-    let answered = run(by, config, calls, &mut output[..n]);
-    (answered == res) & holds(output, expected)
-}
-
+// Whether a run answers the result and writes the expected bytes and no others. `run` makes it, of a configuration, calls and an output.
 // w lengths of the configuration, the calls and the output; the configuration, the calls; w result; the output.
-fn agrees(by: Way, s: &[u8]) -> bool {
+fn agrees<R: Fn(&[u8], &[u8], &mut [u8]) -> u32>(run: &R, s: &[u8]) -> bool
+    requires { R.IsAlwaysCallable run.now }
+{
     let mut output = [0u8; 65536];
+    for (k, b) in output.iter_mut().enumerate() {
+        *b = filled(k);
+    }
     let config = read_word(s, 0) as usize;
     let calls = read_word(s, 4) as usize;
-    let expected = read_word(s, 8) as usize;
     let end = 12 + config + calls;
-    run_agrees(
-        by,
+    let expected = part(s, end + 4, read_word(s, 8) as usize);
+    if output.len() < expected.len() {
+        return false;
+    }
+    let answered = run(
         part(s, 12, config),
         part(s, 12 + config, calls),
-        read_word(s, end),
-        part(s, end + 4, expected),
-        &mut output,
-    )
+        &mut output[..expected.len()],
+    );
+    (answered == read_word(s, end)) & holds(&output, expected)
 }
 
 // ---- files
@@ -99,31 +55,43 @@ fn record_size(s: &[u8]) -> usize {
     16 + (read_word(s, 0) as usize) + (read_word(s, 4) as usize) + (read_word(s, 8) as usize)
 }
 
-fn replay_runs<R: Files + Print + Alloc>(
-    rt: &R,
+// Replays a file of runs that `run` makes.
+fn replay_runs<P: Files + Print + Alloc, R: Fn(&[u8], &[u8], &mut [u8]) -> u32 + Drop>(
+    rt: &P,
     name: &str,
     path: &str,
-    by: Way,
-) -> io::Result<()> {
-    replay(rt, name, path, record_size, |s| agrees(by, s))
+    run: R,
+) -> io::Result<()>
+    requires { R.IsAlwaysCallable run }
+{
+    replay(rt, name, path, record_size, |s| agrees(&run, s))
 }
 
 fn main(rt: HostRuntime) -> io::Result<()> {
-    replay_runs(&rt, "byte runs", "runs.bin", Way::Bytes)?;
-    replay_runs(&rt, "examples", "examples.bin", Way::Bytes)?;
-    replay_runs(&rt, "two-axis runs", "two_axis_runs.bin", Way::TwoAxisBytes)?;
-    replay_runs(&rt, "flown", "runs.bin", Way::Flown(0))?;
+    replay_runs(&rt, "byte runs", "runs.bin", byte_run::byte_run)?;
+    replay_runs(&rt, "examples", "examples.bin", byte_run::byte_run)?;
+    replay_runs(
+        &rt,
+        "two-axis runs",
+        "two_axis_runs.bin",
+        two_axis_run::two_axis_run,
+    )?;
+    replay_runs(&rt, "flown", "runs.bin", |config, calls, output| {
+        flown::one_axis(0, config, calls, output)
+    })?;
     replay_runs(
         &rt,
         "flown, two axes",
         "two_axis_runs.bin",
-        Way::TwoAxesFlown(0),
+        |config, calls, output| flown::two_axes(0, config, calls, output),
     )?;
-    replay_runs(&rt, "steady", "steady_runs.bin", Way::Flown(1))?;
+    replay_runs(&rt, "steady", "steady_runs.bin", |config, calls, output| {
+        flown::one_axis(1, config, calls, output)
+    })?;
     replay_runs(
         &rt,
         "steady, two axes",
         "steady_two_axis_runs.bin",
-        Way::TwoAxesFlown(1),
+        |config, calls, output| flown::two_axes(1, config, calls, output),
     )
 }

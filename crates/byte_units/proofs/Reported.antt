@@ -14,12 +14,12 @@ use Rattle.delay.specs.declared.RateModel.{RateModel}
 use Rattle.report.specs.declared.Report.{Report}
 use Rattle.report.specs.Report.{kind_of, floats_of, fields_of, packed, report_bytes}
 use Rattle.report.proofs.Bytes.{first_small, kind_first, report_words}
-use Rattle.units.specs.declared.PlainUnits.TheVariants.{Nothing}
+use Rattle.std.specs.Prelude.{None}
 use Rattle.units.specs.Units.{units_of}
 use Rattle.byte_units.specs.ByteUnits.{is_done, report_units, status_units, FloatsFit}
 
 -- a first word whose kind is not 1
-not_done : (ws : List ℕ) (a n : ℕ) → a < 2 ^ 32 → a / 2 ^ 30 ≡ n → eqb n 1 ≡ false → report_units (word_bytes (a ∷ ws)) ≡ Nothing
+not_done : (ws : List ℕ) (a n : ℕ) → a < 2 ^ 32 → a / 2 ^ 30 ≡ n → eqb n 1 ≡ false → report_units (word_bytes (a ∷ ws)) ≡ None
 unfolding report_units is_done
 not_done ws a n h k e = rw (word_read (a ∷ ws) 0 (zero-lt-suc (length ws)) h, k, e)
 

@@ -7,8 +7,8 @@ use Rattle.account.specs.declared.IdentifyStatus.{IdentifyStatus}
 use Rattle.account.specs.declared.IdentifyStatus.TheVariants.{Running, Done, Unexcited, Saturated}
 use Rattle.report.specs.declared.Report.{Report}
 use Rattle.report.specs.Report.{report_bytes, kind_read}
-use Rattle.units.specs.declared.PlainUnits.{PlainUnits}
-use Rattle.units.specs.declared.PlainUnits.TheVariants.{Nothing, Both}
+use Rattle.std.specs.Prelude.{Option, Some, None}
+use Rattle.units.specs.declared.Plain.{Plain}
 use Rattle.units.specs.Units.{effect_of, units_at, units_of}
 
 -- "kind 2 (0 running, 1 done, ..)": the first two bits
@@ -16,14 +16,14 @@ unfoldable pub is_done : List ℕ → Bool
 is_done report = eqb (kind_read report) 1
 
 -- the second rate weight stands at byte 16, the moment weights from byte 20 on, dt_s at byte 32
-unfoldable pub report_units : List ℕ → PlainUnits
+unfoldable pub report_units : List ℕ → Option Plain
 report_units report =
-    cond (is_done report) (units_at (effect_of (float_at report 20) (float_at report 24) (float_at report 28)) (float_at report 32) (neg (float_at report 16))) Nothing
+    cond (is_done report) (units_at (effect_of (float_at report 20) (float_at report 24) (float_at report 28)) (float_at report 32) (neg (float_at report 16))) None
 
 -- a word 1 or 0, the lag, the acceleration
-unfoldable pub unit_words : PlainUnits → List ℕ
-unit_words Nothing = 0 ∷ 0 ∷ 0 ∷ []
-unit_words (Both p) = 1 ∷ word_of p.lag_s ∷ word_of p.accel_radps2 ∷ []
+unfoldable pub unit_words : Option Plain → List ℕ
+unit_words None = 0 ∷ 0 ∷ 0 ∷ []
+unit_words (Some p) = 1 ∷ word_of p.lag_s ∷ word_of p.accel_radps2 ∷ []
 
 unfoldable pub sized : List ℕ → List ℕ → Bool
 sized report output = eqb (length report) 36 && eqb (length output) 12
@@ -39,11 +39,11 @@ byte_units report output = units_if (sized report output) report output
 -- ---- of the probe that the report tells of
 
 -- what a status says in plain units: a probe that is not done has neither
-unfoldable pub status_units : IdentifyStatus → PlainUnits
-status_units (Running e) = Nothing
+unfoldable pub status_units : IdentifyStatus → Option Plain
+status_units (Running e) = None
 status_units (Done m) = units_of m
-status_units Unexcited = Nothing
-status_units Saturated = Nothing
+status_units Unexcited = None
+status_units Saturated = None
 
 abbrev pub f32 : Float → Type 0
 f32 x = T (fits binary32 x)

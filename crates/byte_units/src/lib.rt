@@ -5,9 +5,10 @@ ghost use Rattle.std.specs.Prelude.{◌≡◌, [], ◌∷◌, ◌≤◌, length}
 ghost use Rattle.wire.specs.Words.{word_bytes, written_at};
 ghost use Rattle.byte_units.specs.ByteUnits.{is_done, sized, report_units, unit_words, byte_units, TellsUnits};
 
-use units::PlainUnits;
+use units::Plain;
 
 // Whether the report and the output have the sizes that rule 9 asks for.
+#[tactic(auto, unfolding(crate::specs::ByteUnits::sized))]
 fn is_sized(report: &[u8], output: &[u8]) -> bool
     ensures { result ≡ sized report.now output.now }
 {
@@ -22,7 +23,7 @@ fn is_done(report: &[u8]) -> bool
 }
 
 // Lag and acceleration of the model in a report; neither where the probe is not done.
-fn units_of(report: &[u8]) -> PlainUnits
+fn units_of(report: &[u8]) -> Option<Plain>
     ensures { result ≡ report_units report.now }
 {
     if is_done(report) {
@@ -37,7 +38,7 @@ fn units_of(report: &[u8]) -> PlainUnits
             -wire::read_float(report, 16),
         );
     }
-    PlainUnits::Nothing
+    None
 }
 
 fn write_words(output: &mut [u8], a: u32, b: u32, c: u32)
@@ -50,15 +51,15 @@ fn write_words(output: &mut [u8], a: u32, b: u32, c: u32)
 }
 
 // 1 and both floats, or three zeros.
-fn write_units(output: &mut [u8], units: PlainUnits)
+fn write_units(output: &mut [u8], units: Option<Plain>)
     requires { 12 ≤ length output.old }
     ensures { output.new ≡ written_at 0 (word_bytes (unit_words units)) output.old }
 {
     match units {
-        PlainUnits::Nothing => {
+        None => {
             write_words(output, 0, 0, 0);
         }
-        PlainUnits::Both(plain) => {
+        Some(plain) => {
             write_words(
                 output,
                 1,

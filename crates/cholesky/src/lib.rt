@@ -21,6 +21,7 @@ fn reduced_entry(l: &[f32; 36], i: usize, j: usize, start: f32) -> f32
     ensures { result ≡ reduced l.now i j start j }
 {
     let mut e = start;
+    // By index: k is the column, and a row's entries stand 6 apart.
     for k in 0..j {
         e = -entry(l, j, k) * entry(l, i, k) + e;
     }
@@ -47,6 +48,7 @@ pub fn factored(a: &[f32; 36]) -> [f32; 36]
     ensures { Factored a.now result }
 {
     let mut l = [0.0f32; 36];
+    // By index: each entry reads the ones before it in the same array.
     for n in 0..36 {
         l[n] = factor_entry(a, &l, n % 6, n / 6);
     }
@@ -57,11 +59,7 @@ pub fn factored(a: &[f32; 36]) -> [f32; 36]
 pub fn diagonals_above_zero(a: &[f32; 36], l: &[f32; 36]) -> bool
     ensures { Tested a.now l.now result }
 {
-    let mut ok = true;
-    for j in 0..6 {
-        ok = ok & (reduced_entry(l, j, j, entry(a, j, j)) > 0.0);
-    }
-    ok
+    (0..6).all(|j| reduced_entry(l, j, j, entry(a, j, j)) > 0.0)
 }
 
 // ---- the two solves
@@ -72,6 +70,7 @@ fn forward_entry(l: &[f32; 36], b: &[f32; 6], z: &[f32; 6], i: usize) -> f32
     ensures { result ≡ forward_entry l.now b.now i z.now }
 {
     let mut e = b[i];
+    // By index: k is the column of L too.
     for k in 0..i {
         e = e - entry(l, i, k) * z[k];
     }
@@ -83,6 +82,7 @@ pub fn forward_solved(l: &[f32; 36], b: &[f32; 6]) -> [f32; 6]
     ensures { result ≡ forward l.now b.now }
 {
     let mut z = [0.0f32; 6];
+    // By index: each entry reads the ones before it in the same array.
     for i in 0..6 {
         z[i] = forward_entry(l, b, &z, i);
     }
@@ -95,8 +95,9 @@ fn backward_entry(l: &[f32; 36], z: &[f32; 6], s: &[f32; 6], i: usize) -> f32
     ensures { result ≡ backward_entry l.now z.now i s.now }
 {
     let mut e = z[i];
-    for k in 0..5 - i {
-        e = e - entry(l, i + 1 + k, i) * s[i + 1 + k];
+    // By index: k is the row of L too.
+    for k in i + 1..6 {
+        e = e - entry(l, k, i) * s[k];
     }
     e / entry(l, i, i)
 }
@@ -106,8 +107,8 @@ pub fn backward_solved(l: &[f32; 36], z: &[f32; 6]) -> [f32; 6]
     ensures { result ≡ backward l.now z.now }
 {
     let mut s = [0.0f32; 6];
-    for n in 0..6 {
-        let i = 5 - n;
+    // By index: each entry reads the ones after it in the same array.
+    for i in (0..6).rev() {
         s[i] = backward_entry(l, z, &s, i);
     }
     s

@@ -8,12 +8,12 @@ use Rattle.window.specs.declared.Window.{Window}
 use Rattle.window.specs.Samples.{Samples}
 use Rattle.window.specs.Arrays.{samples_in}
 use Rattle.recorded.specs.declared.Classified.{Classified}
-use Rattle.account.specs.declared.Noisy.{Noisy}
-use Rattle.account.specs.declared.Noisy.TheVariants.{Absent, Present}
+use Rattle.account.specs.declared.IdentifyExtension.{IdentifyExtension}
+use Rattle.std.specs.Prelude.{Option, Some, None}
 use Rattle.account.specs.Probe.{stands_with, stands, takes, extend, close}
 use Rattle.closing.specs.Ending.{stands_by, ahead_of, ending_of, ended_by, class_of, due_by, closed_due, closed_by}
 
-module _ (now end : Float) (unused : Noisy) (s : SquareSweep) (w : Window) (rates moments offsets : List Float) (marks : List Bool) where
+module _ (now end : Float) (unused : Option IdentifyExtension) (s : SquareSweep) (w : Window) (rates moments offsets : List Float) (marks : List Bool) where
   abbrev samples : Samples
   samples = samples_in w rates moments offsets marks
 
@@ -25,10 +25,10 @@ module _ (now end : Float) (unused : Noisy) (s : SquareSweep) (w : Window) (rate
   stands_so true = refl
   stands_so false = refl
 
-  ends : (x : Noisy) → ended_by x class now w end unused s rates moments ≡ ending_of (extend now samples x end unused s)
+  ends : (x : Option IdentifyExtension) → ended_by x class now w end unused s rates moments ≡ ending_of (extend now samples x end unused s)
   unfolding ended_by extend
-  ends Absent = rw (stands_so false)
-  ends (Present x) = rw (stands_so (lt now x.duration_s))
+  ends None = rw (stands_so false)
+  ends (Some x) = rw (stands_so (lt now x.duration_s))
 
   closes : (asked below : Bool) → closed_due (due_by below samples) asked now w end unused s rates moments ≡ ending_of (close now samples asked below end unused s)
   unfolding closed_due due_by close stands

@@ -9,14 +9,12 @@ use Rattle.window.specs.Arrays.{stored_of}
 use Rattle.recorded.specs.declared.Classified.{Classified}
 use Rattle.recorded.specs.Classify.{classify}
 use Rattle.account.specs.declared.IdentifyStatus.TheVariants.{Running}
-use Rattle.account.specs.declared.Noisy.{Noisy}
-use Rattle.account.specs.declared.Noisy.TheVariants.{Absent, Present}
+use Rattle.account.specs.declared.IdentifyExtension.{IdentifyExtension}
+use Rattle.std.specs.Prelude.{Option, Some, None}
 use Rattle.account.specs.Probe.{Standing, Closing, finished, takes, close}
 use Rattle.account.specs.Account.{is_integrated}
 use Rattle.closing.specs.declared.Stand.{Stand}
 use Rattle.closing.specs.declared.Ending.{Ending}
-use Rattle.closing.specs.declared.Due.{Due}
-use Rattle.closing.specs.declared.Due.TheVariants.{Ahead, Class}
 
 -- where a probe stands
 abbrev pub stand_of : Standing → Stand
@@ -33,15 +31,15 @@ ending_of c = record {
 }
 
 -- an ending with these fields
-abbrev pub ending : Float → Noisy → SquareSweep → Stand → Ending
+abbrev pub ending : Float → Option IdentifyExtension → SquareSweep → Stand → Ending
 ending end unused s z = record { duration_s = end; noisy = unused; sweep = s; status = z.status; gain_fits = z.gain_fits }
 
 -- with the end time still ahead
-abbrev pub ahead_of : (now end : Float) → Noisy → SquareSweep → Ending
+abbrev pub ahead_of : (now end : Float) → Option IdentifyExtension → SquareSweep → Ending
 ahead_of now end unused s = ending end unused s (record { status = Running now; gain_fits = 0 })
 
 -- how the tick at `now` ends for a probe with this end time, unused extension, sweep and samples; first whether the other axis asks
-abbrev pub closed_by : Bool → (now end : Float) → Noisy → SquareSweep → Samples → Ending
+abbrev pub closed_by : Bool → (now end : Float) → Option IdentifyExtension → SquareSweep → Samples → Ending
 closed_by asked now end unused sweep w = ending_of (close now w asked (lt now end) end unused sweep)
 
 -- where a class leads, from the samples that a window has in its arrays
@@ -59,21 +57,21 @@ class_of w = classify w.rates w.moments w.marks w.duration
 
 -- ---- the same in two halves: what the tick finds, and how it then ends
 -- "Elapsed below duration_s: go on. Otherwise classify."
-unfoldable pub due_by : Bool → Samples → Due
-due_by true w = Ahead
-due_by false w = Class (class_of w)
+unfoldable pub due_by : Bool → Samples → Option Classified
+due_by true w = None
+due_by false w = Some (class_of w)
 
 -- "if either window is integrated when duration_s is reached"
-unfoldable pub asks_of : Due → Bool
-asks_of Ahead = false
-asks_of (Class class) = is_integrated class
+unfoldable pub asks_of : Option Classified → Bool
+asks_of None = false
+asks_of (Some class) = is_integrated class
 
 -- by the extension that is taken, and the class
-unfoldable pub ended_by : Noisy → Classified → Float → Window → Float → Noisy → SquareSweep → (rates moments : List Float) → Ending
-ended_by Absent class now w end unused s rates moments = ending end unused s (stand_of (stands_by false now class w rates moments))
-ended_by (Present x) class now w end unused s rates moments =
-    ending x.duration_s Absent (with_amplitude s x.amplitude) (stand_of (stands_by (lt now x.duration_s) now class w rates moments))
+unfoldable pub ended_by : Option IdentifyExtension → Classified → Float → Window → Float → Option IdentifyExtension → SquareSweep → (rates moments : List Float) → Ending
+ended_by None class now w end unused s rates moments = ending end unused s (stand_of (stands_by false now class w rates moments))
+ended_by (Some x) class now w end unused s rates moments =
+    ending x.duration_s None (with_amplitude s x.amplitude) (stand_of (stands_by (lt now x.duration_s) now class w rates moments))
 
-unfoldable pub closed_due : Due → Bool → Float → Window → Float → Noisy → SquareSweep → (rates moments : List Float) → Ending
-closed_due Ahead asked now w end unused s rates moments = ahead_of now end unused s
-closed_due (Class class) asked now w end unused s rates moments = ended_by (takes asked class unused) class now w end unused s rates moments
+unfoldable pub closed_due : Option Classified → Bool → Float → Window → Float → Option IdentifyExtension → SquareSweep → (rates moments : List Float) → Ending
+closed_due None asked now w end unused s rates moments = ahead_of now end unused s
+closed_due (Some class) asked now w end unused s rates moments = ended_by (takes asked class unused) class now w end unused s rates moments

@@ -10,11 +10,20 @@ ghost use Rattle.account.specs.Probe.{takes, status_of};
 ghost use Rattle.account.specs.Account.{is_integrated};
 ghost use Rattle.closing.specs.Ending.{ending, ahead_of, stand_of, finished_in, stands_by, class_of, due_by, asks_of, ended_by, closed_due, closed_by};
 
-use account::{IdentifyStatus, Noisy};
-use integrated::Fitted;
+use account::{IdentifyExtension, IdentifyStatus};
+use delay::RateModel;
 use recorded::Classified;
 use sweep::SquareSweep;
-use window::Window;
+use window::Readings;
+
+// A tick of a probe, its sample stored: the time, the probe's end time, the extension that it has not used, and its sweep.
+#[derive(Clone, Copy)]
+pub struct Tick {
+    pub now_s: f32,
+    pub end_s: f32,
+    pub noisy: Option<IdentifyExtension>,
+    pub sweep: SquareSweep,
+}
 
 // A status, and the gain fits made for it.
 #[derive(Clone, Copy)]
@@ -27,32 +36,29 @@ pub struct Stand {
 #[derive(Clone, Copy)]
 pub struct Ending {
     pub duration_s: f32,
-    pub noisy: Noisy,
+    pub noisy: Option<IdentifyExtension>,
     pub sweep: SquareSweep,
     pub status: IdentifyStatus,
     pub gain_fits: u32,
 }
 
-// What the end of a tick finds: its end time ahead, or the class of the window.
-#[derive(Clone, Copy)]
-pub enum Due {
-    Ahead,
-    Class(Classified),
-}
-
+#[tactic(auto, unfolding(account::specs::Account::is_integrated))]
 fn is_integrated(class: Classified) -> bool
     ensures { result ≡ is_integrated class }
 {
     match class {
         Classified::Integrated => true,
-        Classified::Recorded(_) => false,
-        Classified::Unexcited => false,
-        Classified::Saturated => false,
+        _ => false,
     }
 }
 
 // The extension that a class of window takes; where the other axis asks for it, any class does.
-fn taken_extension(asked: bool, class: Classified, noisy: Noisy) -> Noisy
+#[tactic(auto, unfolding(account::specs::Probe::takes))]
+fn taken_extension(
+    asked: bool,
+    class: Classified,
+    noisy: Option<IdentifyExtension>,
+) -> Option<IdentifyExtension>
     ensures { result ≡ takes asked class noisy }
 {
     if asked {
@@ -60,42 +66,43 @@ fn taken_extension(asked: bool, class: Classified, noisy: Noisy) -> Noisy
     }
     match class {
         Classified::Integrated => noisy,
-        Classified::Recorded(_) => Noisy::Absent,
-        Classified::Unexcited => Noisy::Absent,
-        Classified::Saturated => Noisy::Absent,
+        _ => None,
     }
 }
 
-fn status_of(fitted: Fitted) -> IdentifyStatus
-    ensures { result ≡ status_of fitted }
+fn status_of(model: Option<RateModel>) -> IdentifyStatus
+    ensures { result ≡ status_of model }
 {
-    match fitted {
-        Fitted::Nothing => IdentifyStatus::Unexcited,
-        Fitted::Model(model) => IdentifyStatus::Done(model),
-    }
+    model.map_or(IdentifyStatus::Unexcited, IdentifyStatus::Done)
 }
 
-fn search(window: Window, rates: &[f32; 2048], moments: &[f32; 2048]) -> Stand
-    ensures { result ≡ stand_of (finished_in Integrated window rates.now moments.now) }
+fn search(readings: Readings<'_>) -> Stand
+    ensures { result ≡ stand_of (finished_in Integrated readings.entry.window readings.entry.rates.now readings.entry.moments.now) }
 {
+    let Readings {
+        window,
+        rates,
+        moments,
+        ..
+    } = readings;
     let fit = integrated::fit_integrated(rates, moments, window.len, window.duration_s);
-    let fitted = fit.fitted;
     Stand {
-        status: status_of(fitted),
+        status: status_of(fit.model),
         gain_fits: fit.gain_fits,
     }
 }
 
 // Where the class of a window leads.
-fn finish(class: Classified, window: Window, rates: &[f32; 2048], moments: &[f32; 2048]) -> Stand
-    ensures { result ≡ stand_of (finished_in class window rates.now moments.now) }
+#[tactic(auto, unfolding(crate::specs::Ending::finished_in, account::specs::Probe::finished))]
+fn finish(class: Classified, readings: Readings<'_>) -> Stand
+    ensures { result ≡ stand_of (finished_in class readings.entry.window readings.entry.rates.now readings.entry.moments.now) }
 {
     match class {
         Classified::Recorded(model) => Stand {
             status: IdentifyStatus::Done(model),
             gain_fits: 0,
         },
-        Classified::Integrated => search(window, rates, moments),
+        Classified::Integrated => search(readings),
         Classified::Unexcited => Stand {
             status: IdentifyStatus::Unexcited,
             gain_fits: 0,
@@ -116,162 +123,103 @@ fn running(elapsed_s: f32) -> Stand
     }
 }
 
-// Where a probe stands at the end of a tick: running, or where the class of its window leads.
-fn stand_at(
-    is_running: bool,
-    now_s: f32,
-    class: Classified,
-    window: Window,
-    rates: &[f32; 2048],
-    moments: &[f32; 2048],
-) -> Stand
-    ensures { result ≡ stand_of (stands_by is_running now_s class window rates.now moments.now) }
+// Where a probe stands at now_s: running before duration_s, and from then on where the class of its window leads.
+#[tactic(auto, unfolding(crate::specs::Ending::stands_by, account::specs::Probe::stands))]
+fn stand_at(now_s: f32, duration_s: f32, class: Classified, readings: Readings<'_>) -> Stand
+    ensures { result ≡ stand_of (stands_by (lt now_s duration_s) now_s class readings.entry.window readings.entry.rates.now readings.entry.moments.now) }
 {
-    if is_running {
+    if now_s < duration_s {
         return running(now_s);
     }
-    finish(class, window, rates, moments)
+    finish(class, readings)
 }
 
-fn ended_at(duration_s: f32, noisy: Noisy, sweep: SquareSweep, stand: Stand) -> Ending
+fn ended_at(
+    duration_s: f32,
+    noisy: Option<IdentifyExtension>,
+    sweep: SquareSweep,
+    stand: Stand,
+) -> Ending
     ensures { result ≡ ending duration_s noisy sweep stand }
 {
-    let status = stand.status;
     Ending {
         duration_s,
         noisy,
         sweep,
-        status,
+        status: stand.status,
         gain_fits: stand.gain_fits,
     }
 }
 
 // The end of a tick with the end time still ahead.
-pub fn goes_on(now_s: f32, end_s: f32, noisy: Noisy, sweep: SquareSweep) -> Ending
-    ensures { result ≡ ahead_of now_s end_s noisy sweep }
+pub fn goes_on(tick: Tick) -> Ending
+    ensures { result ≡ ahead_of tick.now_s tick.end_s tick.noisy tick.sweep }
 {
-    ended_at(end_s, noisy, sweep, running(now_s))
+    ended_at(tick.end_s, tick.noisy, tick.sweep, running(tick.now_s))
 }
 
 // The class of a window.
-fn class_of(
-    window: Window,
-    rates: &[f32; 2048],
-    moments: &[f32; 2048],
-    held: &[bool; 2048],
-) -> Classified
-    ensures { (offsets : List Float) → result ≡ class_of (samples_in window rates.now moments.now offsets held.now) }
+fn class_of(readings: Readings<'_>) -> Classified
+    ensures { (offsets : List Float) → result ≡ class_of (samples_in readings.entry.window readings.entry.rates.now readings.entry.moments.now offsets readings.entry.held.now) }
 {
-    recorded::classify(rates, moments, held, window.stored(), window.duration_s)
+    recorded::classify(readings)
 }
 
-// What the tick at now_s finds, its sample stored.
-pub fn due_at(
-    now_s: f32,
-    end_s: f32,
-    window: Window,
-    rates: &[f32; 2048],
-    moments: &[f32; 2048],
-    held: &[bool; 2048],
-) -> Due
-    ensures { (offsets : List Float) → result ≡ due_by (lt now_s end_s) (samples_in window rates.now moments.now offsets held.now) }
+// What the tick at now_s finds, its sample stored: none while its end time is ahead, else the class of the window.
+pub fn due_at(now_s: f32, end_s: f32, readings: Readings<'_>) -> Option<Classified>
+    ensures { (offsets : List Float) → result ≡ due_by (lt now_s end_s) (samples_in readings.entry.window readings.entry.rates.now readings.entry.moments.now offsets readings.entry.held.now) }
 {
     let ahead = now_s < end_s;
     if ahead {
-        return Due::Ahead;
+        return None;
     }
-    Due::Class(class_of(window, rates, moments, held))
+    Some(class_of(readings))
 }
 
 // Whether an axis asks for the extension.
-pub fn asks(due: Due) -> bool
+#[tactic(auto, unfolding(crate::specs::Ending::asks_of))]
+pub fn asks(due: Option<Classified>) -> bool
     ensures { result ≡ asks_of due }
 {
-    match due {
-        Due::Ahead => false,
-        Due::Class(class) => is_integrated(class),
-    }
+    due.is_some_and(is_integrated)
 }
 
 // The end of a tick whose window has this class.
-fn end_by(
-    class: Classified,
-    asked: bool,
-    now_s: f32,
-    window: Window,
-    end_s: f32,
-    noisy: Noisy,
-    sweep: SquareSweep,
-    rates: &[f32; 2048],
-    moments: &[f32; 2048],
-) -> Ending
-    ensures { result ≡ ended_by (takes asked class noisy) class now_s window end_s noisy sweep rates.now moments.now }
+#[tactic(auto, unfolding(crate::specs::Ending::ended_by, crate::specs::Ending::stands_by))]
+fn end_by(class: Classified, asked: bool, tick: Tick, readings: Readings<'_>) -> Ending
+    ensures { result ≡ ended_by (takes asked class tick.noisy) class tick.now_s readings.entry.window tick.end_s tick.noisy tick.sweep readings.entry.rates.now readings.entry.moments.now }
 {
-    let extension = taken_extension(asked, class, noisy);
-    let Noisy::Present(x) = extension else {
-        return ended_at(
-            end_s,
-            noisy,
-            sweep,
-            stand_at(false, now_s, class, window, rates, moments),
-        );
+    let extension = taken_extension(asked, class, tick.noisy);
+    let Some(x) = extension else {
+        return ended_at(tick.end_s, tick.noisy, tick.sweep, finish(class, readings));
     };
-    let louder = sweep.with_amplitude(x.amplitude);
+    let louder = tick.sweep.with_amplitude(x.amplitude);
     ended_at(
         x.duration_s,
-        Noisy::Absent,
+        None,
         louder,
-        stand_at(now_s < x.duration_s, now_s, class, window, rates, moments),
+        stand_at(tick.now_s, x.duration_s, class, readings),
     )
 }
 
 // The end of a tick by what it finds, and whether the other axis asks for the extension.
-pub fn close_due(
-    due: Due,
-    asked: bool,
-    now_s: f32,
-    window: Window,
-    end_s: f32,
-    noisy: Noisy,
-    sweep: SquareSweep,
-    rates: &[f32; 2048],
-    moments: &[f32; 2048],
-) -> Ending
-    ensures { result ≡ closed_due due asked now_s window end_s noisy sweep rates.now moments.now }
+#[tactic(auto, unfolding(crate::specs::Ending::closed_due))]
+pub fn close_due(due: Option<Classified>, asked: bool, tick: Tick, readings: Readings<'_>) -> Ending
+    ensures { result ≡ closed_due due asked tick.now_s readings.entry.window tick.end_s tick.noisy tick.sweep readings.entry.rates.now readings.entry.moments.now }
 {
-    let Due::Class(class) = due else {
-        return goes_on(now_s, end_s, noisy, sweep);
+    let Some(class) = due else {
+        return goes_on(tick);
     };
-    end_by(
-        class, asked, now_s, window, end_s, noisy, sweep, rates, moments,
-    )
+    end_by(class, asked, tick, readings)
 }
 
-// The end of a tick at now_s of a probe that flies alone, its sample stored.
-pub fn close(
-    now_s: f32,
-    window: Window,
-    end_s: f32,
-    noisy: Noisy,
-    sweep: SquareSweep,
-    rates: &[f32; 2048],
-    moments: &[f32; 2048],
-    held: &[bool; 2048],
-) -> Ending
-    ensures { (offsets : List Float) → result ≡ closed_by false now_s end_s noisy sweep (samples_in window rates.now moments.now offsets held.now) }
+// The end of a tick of a probe that flies alone.
+pub fn close(tick: Tick, readings: Readings<'_>) -> Ending
+    ensures { (offsets : List Float) → result ≡ closed_by false tick.now_s tick.end_s tick.noisy tick.sweep (samples_in readings.entry.window readings.entry.rates.now readings.entry.moments.now offsets readings.entry.held.now) }
 {
-    if now_s < end_s {
-        return goes_on(now_s, end_s, noisy, sweep);
+    if tick.now_s < tick.end_s {
+        return goes_on(tick);
     }
-    end_by(
-        class_of(window, rates, moments, held),
-        false,
-        now_s,
-        window,
-        end_s,
-        noisy,
-        sweep,
-        rates,
-        moments,
-    )
+    let class = class_of(readings);
+    end_by(class, false, tick, readings)
 }

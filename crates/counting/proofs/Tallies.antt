@@ -8,16 +8,16 @@ use Rattle.counting.specs.declared.Tally.{Tally}
 use Rattle.window.specs.Walk.{run, over, mark_at, is_held, is_warm, is_row}
 use Rattle.window.specs.Arrays.{many_to}
 use Rattle.window.proofs.Bounds.{many_at_most, run_at_most}
-use Rattle.counting.specs.Tally.{tally_to, tallied}
+use Rattle.counting.specs.Tally.{counts_to, tally_to, tallied}
 
 pub record Few (t : Tally) (n : ℕ) : Type 0 where
-  pub held : t.held ≤ n
-  pub warm : t.warm ≤ n
-  pub rows : t.rows ≤ n
+  pub held : t.counts.held ≤ n
+  pub warm : t.counts.warm ≤ n
+  pub rows : t.counts.rows ≤ n
   pub run : t.run ≤ n
 
 pub few : (marks : List Bool) (n : ℕ) → Few (tally_to marks n) n
-unfolding tally_to
+unfolding tally_to counts_to
 few marks n = record {
   held = many_at_most is_held marks n;
   warm = many_at_most is_warm marks n;
@@ -28,9 +28,11 @@ few marks n = record {
 -- one more tick
 by_mark : (x b : Bool) (t : Tally) → leb 11 t.run ≡ b
     → tallied t x ≡ record {
-      held = cond (is_held x t.run) (suc t.held) t.held;
-      warm = cond (is_warm x t.run) (suc t.warm) t.warm;
-      rows = cond (is_row x t.run) (suc t.rows) t.rows;
+      counts = record {
+        held = cond (is_held x t.run) (suc t.counts.held) t.counts.held;
+        warm = cond (is_warm x t.run) (suc t.counts.warm) t.counts.warm;
+        rows = cond (is_row x t.run) (suc t.counts.rows) t.counts.rows;
+      };
       run = cond x 0 (suc t.run);
     }
 unfolding tallied
@@ -39,5 +41,5 @@ by_mark false true t e = rw e
 by_mark false false t e = rw e
 
 pub tally_next : (marks : List Bool) (n : ℕ) → tallied (tally_to marks n) (mark_at marks n) ≡ tally_to marks (suc n)
-unfolding tally_to many_to over run
+unfolding tally_to counts_to many_to over run
 tally_next marks n = by_mark (mark_at marks n) (leb 11 (tally_to marks n).run) (tally_to marks n) refl

@@ -10,18 +10,13 @@ counts_to marks n = record { held = many_to is_held marks n; warm = many_to is_w
 
 -- the counts of the first ticks, and the run that ends with the last of them
 unfoldable pub tally_to : List Bool → ℕ → Tally
-tally_to marks n = record {
-  held = many_to is_held marks n;
-  warm = many_to is_warm marks n;
-  rows = many_to is_row marks n;
-  run = run (mark_at marks) n;
-}
+tally_to marks n = record { counts = counts_to marks n; run = run (mark_at marks) n }
 
-abbrev pub tallied_good : Bool → Tally → Tally
-tallied_good true t = record { held = t.held; warm = t.warm; rows = suc t.rows; run = suc t.run }
-tallied_good false t = record { held = t.held; warm = suc t.warm; rows = t.rows; run = suc t.run }
+abbrev pub counted_good : Bool → Counts → Counts
+counted_good true c = record c { rows = suc c.rows }
+counted_good false c = record c { warm = suc c.warm }
 
 -- one more tick: held, warm or a row
 unfoldable pub tallied : Tally → Bool → Tally
-tallied t true = record { held = suc t.held; warm = t.warm; rows = t.rows; run = 0 }
-tallied t false = tallied_good (leb 11 t.run) t
+tallied t true = record { counts = record t.counts { held = suc t.counts.held }; run = 0 }
+tallied t false = record { counts = counted_good (leb 11 t.run) t.counts; run = suc t.run }

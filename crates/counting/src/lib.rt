@@ -17,58 +17,60 @@ pub struct Counts {
 // Counts so far, with the good ticks in a row just before the next one.
 #[derive(Clone, Copy)]
 pub struct Tally {
-    pub held: usize,
-    pub warm: usize,
-    pub rows: usize,
+    pub counts: Counts,
     pub run: usize,
 }
 
 // One more tick. A held one empties the history; a good one is a row from the 12th of its run on.
+#[tactic(auto, unfolding(crate::specs::Tally::tallied))]
 fn tally_tick(t: Tally, held: bool) -> Tally
-    requires { (t.held < 2048) × (t.warm < 2048) × (t.rows < 2048) × (t.run < 2048) }
+    requires { (t.counts.held < 2048) × (t.counts.warm < 2048) × (t.counts.rows < 2048) × (t.run < 2048) }
     ensures { result ≡ tallied t held }
 {
+    let counts = t.counts;
     if held {
         return Tally {
-            held: t.held + 1,
-            warm: t.warm,
-            rows: t.rows,
+            counts: Counts {
+                held: counts.held + 1,
+                ..counts
+            },
             run: 0,
         };
     }
+    let run = t.run + 1;
     if t.run < 11 {
         return Tally {
-            held: t.held,
-            warm: t.warm + 1,
-            rows: t.rows,
-            run: t.run + 1,
+            counts: Counts {
+                warm: counts.warm + 1,
+                ..counts
+            },
+            run,
         };
     }
     Tally {
-        held: t.held,
-        warm: t.warm,
-        rows: t.rows + 1,
-        run: t.run + 1,
+        counts: Counts {
+            rows: counts.rows + 1,
+            ..counts
+        },
+        run,
     }
 }
 
 // What the stored ticks of a window are.
+#[tactic(auto, unfolding(window::specs::Arrays::stored_of))]
 pub fn count_ticks(window: Window, held: &[bool; 2048]) -> Counts
     ensures { result ≡ counts_to held.now (stored_of window) }
 {
-    let n = window.stored();
     let mut t = Tally {
-        held: 0,
-        warm: 0,
-        rows: 0,
+        counts: Counts {
+            held: 0,
+            warm: 0,
+            rows: 0,
+        },
         run: 0,
     };
-    for k in 0..n {
-        t = tally_tick(t, held[k]);
+    for mark in &held[..window.stored()] {
+        t = tally_tick(t, *mark);
     }
-    Counts {
-        held: t.held,
-        warm: t.warm,
-        rows: t.rows,
-    }
+    t.counts
 }

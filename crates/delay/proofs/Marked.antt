@@ -5,9 +5,12 @@ use mathlib.Core.List.{[], ◌∷◌, ◌++◌}
 use lib.ListN.{replicate}
 use lib.Ieee.{Float, inf, binary32, of_bits, add, mul, lt, le, ne}
 use Rattle.float.specs.Values.{zero32, one32, least}
-use Rattle.delay.specs.declared.Entry.TheVariants.{Missing, Fit}
-use Rattle.delay.specs.declared.Position.TheVariants.{Nowhere, At}
+use Rattle.delay.specs.declared.Entry.{Entry}
+use Rattle.std.specs.Prelude.{Option, Some, None}
 use Rattle.delay.specs.Tie.{considered, residuals, lesser, least_to, within, first_from, under_bar, shortest_tied, delay_to_fit}
+
+abbrev pub entry : Float → Float → Option Entry
+entry effect residual = Some (record { effect = effect; residual = residual })
 
 -- 0.01, 0.5, -1, 2, 1.25 and 1.0078125
 abbrev pub hundredth : Float
@@ -28,26 +31,26 @@ one_and_quarter = of_bits binary32 0x3fa0_0000
 abbrev pub just_above_one : Float
 just_above_one = of_bits binary32 0x3f81_0000
 
-pub M4 : delay_to_fit zero32 [] ≡ Nowhere
+pub M4 : delay_to_fit zero32 [] ≡ None
 unfolding delay_to_fit shortest_tied residuals considered least_to lesser least under_bar first_from within of_bits add ne mul lt le
 M4 = refl
 
-pub M5 : delay_to_fit zero32 (Fit one32 one_and_quarter ∷ Fit one32 one32 ∷ []) ≡ At 2
+pub M5 : delay_to_fit zero32 (entry one32 one_and_quarter ∷ entry one32 one32 ∷ []) ≡ Some 2
 unfolding delay_to_fit shortest_tied residuals considered least_to lesser least under_bar first_from within of_bits add ne mul lt le
 M5 = refl
 
-pub M6 : delay_to_fit hundredth (Fit one32 just_above_one ∷ Fit one32 one32 ∷ []) ≡ At 1
+pub M6 : delay_to_fit hundredth (entry one32 just_above_one ∷ entry one32 one32 ∷ []) ≡ Some 1
 unfolding delay_to_fit shortest_tied residuals considered least_to lesser least under_bar first_from within of_bits add ne mul lt le
 M6 = refl
 
-pub M7 : delay_to_fit zero32 (Fit minus_one half ∷ Fit one32 two ∷ []) ≡ At 2
+pub M7 : delay_to_fit zero32 (entry minus_one half ∷ entry one32 two ∷ []) ≡ Some 2
 unfolding delay_to_fit shortest_tied residuals considered least_to lesser least under_bar first_from within of_bits add ne mul lt le
 M7 = refl
 
-pub M8 : delay_to_fit zero32 (Fit one32 (inf false) ∷ []) ≡ Nowhere
+pub M8 : delay_to_fit zero32 (entry one32 (inf false) ∷ []) ≡ None
 unfolding delay_to_fit shortest_tied residuals considered least_to lesser least under_bar first_from within of_bits add ne mul lt le
 M8 = refl
 
-pub M9 : delay_to_fit zero32 (replicate 20 Missing ++ (Fit one32 one32 ∷ [])) ≡ Nowhere
+pub M9 : delay_to_fit zero32 (replicate 20 None ++ (entry one32 one32 ∷ [])) ≡ None
 unfolding delay_to_fit shortest_tied residuals considered least_to lesser least under_bar first_from within of_bits add ne mul lt le
 M9 = refl

@@ -1,9 +1,9 @@
 // What both fits share: the one unit of a delay, the model, and the rule that picks a delay among fits that are as good.
 #![tactic(auto)]
 
-ghost use Rattle.std.specs.Prelude.{◌≡◌, min};
+ghost use Rattle.std.specs.Prelude.{◌≡◌, min, position};
 ghost use Rattle.delay.specs.HalfTicks.{of_recorded, of_integrated, whole_ticks, half_tick};
-ghost use Rattle.delay.specs.Tie.{entry_count, considered as considered_of, residuals, lesser as lesser_of, least_to, within, first_from, shortest_tied, delay_to_fit};
+ghost use Rattle.delay.specs.Tie.{passes, entry_count, considered as considered_of, residuals, lesser as lesser_of, least_to, within, first_from, shortest_tied, delay_to_fit};
 
 // A delay in half ticks.
 #[derive(Clone, Copy)]
@@ -24,25 +24,11 @@ pub struct RateModel {
     pub dt_s: f32,
 }
 
-// One entry of the rule's list: a fit's moment effect and residual, or no fit.
+// A fit as an entry of the rule's list: its moment effect and its residual.
 #[derive(Clone, Copy)]
-pub enum Entry {
-    Missing,
-    Fit(f32, f32),
-}
-
-// A place in the rule's list, counted from one.
-#[derive(Clone, Copy)]
-pub enum Position {
-    Nowhere,
-    At(usize),
-}
-
-// A residual that a pass considers, or none.
-#[derive(Clone, Copy)]
-pub enum Residual {
-    None,
-    Of(f32),
+pub struct Entry {
+    pub effect: f32,
+    pub residual: f32,
 }
 
 // ---- the unit
@@ -51,7 +37,7 @@ pub enum Residual {
 fn listed(position: usize) -> u32
     ensures { result ≡ min position entry_count }
 {
-    if position < 20 { position as u32 } else { 20 }
+    position.min(20) as u32
 }
 
 impl Delay {
@@ -90,81 +76,73 @@ impl Delay {
 // ---- the tie rule
 
 // An entry's residual, where a pass considers it: one pass takes effects above 0, the other takes all.
-fn considered(all: bool, entry: Entry) -> Residual
+#[tactic(auto, unfolding(crate::specs::Tie::considered))]
+fn considered(all: bool, entry: Option<Entry>) -> Option<f32>
     ensures { result ≡ considered_of all entry }
 {
-    let Entry::Fit(effect, residual) = entry else {
-        return Residual::None;
-    };
-    if all {
-        return Residual::Of(residual);
+    match entry {
+        Some(fit) if all | (fit.effect > 0.0) => Some(fit.residual),
+        _ => None,
     }
-    if effect > 0.0 {
-        return Residual::Of(residual);
-    }
-    Residual::None
 }
 
-fn lesser(a: Residual, b: Residual) -> Residual
+#[tactic(auto, unfolding(crate::specs::Tie::lesser))]
+fn lesser(a: Option<f32>, b: Option<f32>) -> Option<f32>
     ensures { result ≡ lesser_of a b }
 {
-    let Residual::Of(x) = a else {
-        return b;
-    };
-    let Residual::Of(y) = b else {
-        return a;
-    };
-    Residual::Of(float::min(x, y))
-}
-
-fn is_within(bar: f32, residual: Residual) -> bool
-    ensures { result ≡ within bar residual }
-{
-    match residual {
-        Residual::None => false,
-        Residual::Of(r) => r <= bar,
+    match (a, b) {
+        (Some(x), Some(y)) => Some(float::min(x, y)),
+        (Some(x), None) => Some(x),
+        (None, y) => y,
     }
 }
 
-fn least_residual(entries: [Entry; 20], all: bool) -> Residual
+#[tactic(auto, unfolding(crate::specs::Tie::within))]
+fn is_within(bar: f32, residual: Option<f32>) -> bool
+    ensures { result ≡ within bar residual }
+{
+    residual.is_some_and(|r| r <= bar)
+}
+
+fn least_residual(entries: [Option<Entry>; 20], all: bool) -> Option<f32>
     ensures { result ≡ least_to (residuals all entries) entry_count }
 {
-    let mut least = Residual::None;
-    for i in 0..20 {
-        let entry = entries[i];
+    let mut least = None;
+    for entry in entries {
         least = lesser(least, considered(all, entry));
     }
     least
 }
 
-fn first_within(entries: [Entry; 20], all: bool, bar: f32) -> Position
+// The place of the first entry whose residual is within the bar.
+fn place_within(entries: &[Option<Entry>], all: bool, bar: f32) -> Option<usize>
+    ensures { result ≡ position (passes all bar) entries.now }
+{
+    entries
+        .iter()
+        .position(|entry| is_within(bar, considered(all, *entry)))
+}
+
+fn first_within(entries: [Option<Entry>; 20], all: bool, bar: f32) -> Option<usize>
     ensures { result ≡ first_from bar (residuals all entries) 0 entry_count }
 {
-    for i in 0..20 {
-        let entry = entries[i];
-        if is_within(bar, considered(all, entry)) {
-            return Position::At(i + 1);
-        }
-    }
-    Position::Nowhere
+    let place = place_within(&entries, all, bar)?;
+    Some(place + 1)
 }
 
 // The first residual that is within the share of the least one, in one pass.
-pub fn shortest_tied(entries: [Entry; 20], share: f32, all: bool) -> Position
+#[tactic(auto, unfolding(crate::specs::Tie::shortest_tied, crate::specs::Tie::under_bar))]
+pub fn shortest_tied(entries: [Option<Entry>; 20], share: f32, all: bool) -> Option<usize>
     ensures { result ≡ shortest_tied share all entries }
 {
-    match least_residual(entries, all) {
-        Residual::None => Position::Nowhere,
-        Residual::Of(least) => first_within(entries, all, least + share * least),
-    }
+    let least = least_residual(entries, all)?;
+    first_within(entries, all, least + share * least)
 }
 
 // The shortest tied of the fits whose effect is above 0; where there is none, of all.
-pub fn delay_to_fit(entries: [Entry; 20], share: f32) -> Position
+#[tactic(auto, unfolding(crate::specs::Tie::delay_to_fit))]
+pub fn delay_to_fit(entries: [Option<Entry>; 20], share: f32) -> Option<usize>
     ensures { result ≡ delay_to_fit share entries }
 {
-    match shortest_tied(entries, share, false) {
-        Position::At(p) => Position::At(p),
-        Position::Nowhere => shortest_tied(entries, share, true),
-    }
+    shortest_tied(entries, share, false).or_else(|| shortest_tied(entries, share, true))
 }

@@ -86,7 +86,7 @@ module _ (rates moments : List Float) (marks : List Bool) (d len : ℕ) (p : 1 �
       (λ k. rw (back_twice k (d - 1 + (a - 4)) (b - a), s) (sym (rw (in_moments a k h, in_moments b k f))))
 
   pair_is : (o j : ℕ) → o < 3 → pair_at (shared_sums rates moments marks len) o j ≡ at (pair_sums moments marks o len) j
-  unfolding pair_at shared_sums
+  unfolding shared_sums
   pair_is zero j h = refl
   pair_is (suc zero) j h = refl
   pair_is (suc (suc zero)) j h = refl

@@ -1,13 +1,13 @@
 -- Each delay's sums from those that the delays share. proofs/Same.antt shows that they are the sums of Rows, bit for bit.
-use Rattle.std.specs.Prelude.{ℕ, ◌+◌, ◌*◌, ◌-◌, ◌/◌, ◌%◌, cond, ltb, leb, eqb, replicate, Float}
+use Rattle.std.specs.Prelude.{ℕ, ◌+◌, ◌*◌, ◌-◌, ◌/◌, ◌%◌, cond, ltb, leb, [], get_or, replicate, Float}
 use Rattle.float.specs.Values.{zero32}
 use Rattle.float.specs.Series.{at, fill}
 use Rattle.least_squares.specs.declared.Sums.{Sums}
 use Rattle.shared_sums.specs.declared.SharedSums.{SharedSums}
 
 -- the pairs of moments that stand o ticks apart, the later one j ticks back
-unfoldable pub pair_at : SharedSums → ℕ → ℕ → Float
-pair_at s o j = cond (eqb o 0) (at s.pairs0 j) (cond (eqb o 1) (at s.pairs1 j) (at s.pairs2 j))
+abbrev pub pair_at : SharedSums → ℕ → ℕ → Float
+pair_at s o j = at (get_or s.pairs o []) j
 
 -- Σ of the products of two of a row's seven: places 0 to 3 are the common ones, 4 to 6 the moments k+1-d, k-d and k-1-d
 unfoldable pub cross_sum : SharedSums → ℕ → ℕ → ℕ → Float

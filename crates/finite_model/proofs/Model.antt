@@ -15,22 +15,16 @@ use Rattle.float.specs.Values.{zero32, one32, finite, max_zero}
 use Rattle.float.specs.Narrow.{narrowed}
 use Rattle.float.specs.Series.{at}
 use Rattle.delay.specs.declared.RateModel.{RateModel}
-use Rattle.delay.specs.declared.Position.{Position}
-use Rattle.delay.specs.declared.Position.TheVariants.{Nowhere, At}
+use Rattle.std.specs.Prelude.{Option, Some, None}
 use Rattle.delay.specs.Tie.{delay_to_fit}
 use Rattle.lags.specs.Lags.{lag_count, pole_of, carry_of}
 use Rattle.gain.specs.declared.GainFit.{GainFit}
-use Rattle.gain.specs.declared.GainFit.TheVariants as gain
 use Rattle.gain.specs.Gain.{first_tick, is_half, gain_of, trim_of, difference_of, varies, fit_if, is_sound, sound_fit, solved, fitted, gain_fit}
 use Rattle.grid.specs.declared.LagFit.{LagFit}
-use Rattle.grid.specs.declared.Kept.{Kept}
-use Rattle.grid.specs.declared.Kept.TheVariants.{Empty, Best}
-use Rattle.grid.specs.Grid.{candidate, candidates, kept_at, low_end, high_end, pick_end, KeepsFirst}
+use Rattle.grid.specs.Grid.{lag_fit, candidate, candidates, kept_at, low_end, high_end, pick_end, KeepsFirst}
 use Rattle.grid.proofs.Keeps.{keeps_first}
 use Rattle.golden.specs.declared.Refined.{Refined}
 use Rattle.golden.specs.Golden.{golden, refined, tried, onward, pick_round, better_of, pick_lag, left_of, right_of, max_rounds, Round}
-use Rattle.integrated.specs.declared.Fitted.{Fitted}
-use Rattle.integrated.specs.declared.Fitted.TheVariants.{Nothing, Model}
 use Rattle.integrated.specs.Integrated.{model_of, modelled, no_model, chosen_from, chosen_at, searched, mean_dt, window_fit, fit_long, fit_integrated, newer_share, older_share, entries}
 use Rattle.finite_model.specs.FiniteModel.{FiniteF32, FiniteModel}
 use Rattle.finite_model.proofs.Multiples.{U, Of, own, held_of, counted, of_finite, add_plus, add_minus, neg_of, zero_held, NonNegative, Within, whole_within, mul_under}
@@ -38,35 +32,40 @@ use Rattle.finite_model.proofs.Trials.{ZeroToOne, one_held, trials}
 use Rattle.finite_model.proofs.Poles.{mean_tick, narrowed_fits, zero_in, pole_in}
 
 -- ---- a fit's gain is a finite f32, whatever the pole
-abbrev Gains : (Float → GainFit) → Type 0
-Gains fit = (pole g r : Float) → fit pole ≡ gain.Fit g r → FiniteF32 g
+abbrev Gains : (Float → Option GainFit) → Type 0
+Gains fit = (pole : Float) (g : GainFit) → fit pole ≡ Some g → FiniteF32 g.gain
 
-no_fit : {g r : Float} → gain.Nothing ≡ gain.Fit g r → ⊥
+no_fit : {g : GainFit} → None ≡ Some g → ⊥
 no_fit e = let z : ◌≡◌ {A = ℕ} 0 1 = cc in omega arith
 
 second : (a b : Bool) → (a && b) ≡ true → b ≡ true
 second true b e = e
 second false b e = absurd (true≢false (sym e))
 
-sound_gain : (k d g r : Float) → sound_fit k d ≡ gain.Fit g r → FiniteF32 g
+sound_gain : (k d : Float) (g : GainFit) → sound_fit k d ≡ Some g → FiniteF32 g.gain
 unfolding sound_fit
-sound_gain k d g r = go (is_sound k d) refl
+sound_gain k d g = go (is_sound k d) refl
   where
-    go : (b : Bool) → is_sound k d ≡ b → fit_if b (gain.Fit (narrowed k) (narrowed (max_zero binary64 d))) ≡ gain.Fit g r → FiniteF32 g
-    go true s e = let same : narrowed k ≡ g = cc in subst FiniteF32 same (record { real = second (not (is_nan d)) (finite (narrowed k)) s; held = narrowed_fits k })
+    fit : GainFit
+    fit = record { gain = narrowed k; residual = narrowed (max_zero binary64 d) }
+
+    go : (b : Bool) → is_sound k d ≡ b → fit_if b (Some fit) ≡ Some g → FiniteF32 g.gain
+    go true s e =
+        let same : fit ≡ g = cc in
+        subst (λ (x : GainFit). FiniteF32 x.gain) same (record { real = second (not (is_nan d)) (finite (narrowed k)) s; held = narrowed_fits k })
     go false s e = absurd (no_fit e)
 
-solved_gain : (mm mc nn mt ct qq g r : Float) → solved mm mc nn mt ct qq ≡ gain.Fit g r → FiniteF32 g
+solved_gain : (mm mc nn mt ct qq : Float) (g : GainFit) → solved mm mc nn mt ct qq ≡ Some g → FiniteF32 g.gain
 unfolding solved
-solved_gain mm mc nn mt ct qq g r = go (varies mm mc nn)
+solved_gain mm mc nn mt ct qq g = go (varies mm mc nn)
   where
-    go : (b : Bool) → fit_if b (sound_fit (gain_of mm mc nn mt ct) (difference_of (gain_of mm mc nn mt ct) (trim_of mm mc nn mt ct) mt ct qq)) ≡ gain.Fit g r → FiniteF32 g
-    go true e = sound_gain (gain_of mm mc nn mt ct) (difference_of (gain_of mm mc nn mt ct) (trim_of mm mc nn mt ct) mt ct qq) g r e
+    go : (b : Bool) → fit_if b (sound_fit (gain_of mm mc nn mt ct) (difference_of (gain_of mm mc nn mt ct) (trim_of mm mc nn mt ct) mt ct qq)) ≡ Some g → FiniteF32 g.gain
+    go true e = sound_gain (gain_of mm mc nn mt ct) (difference_of (gain_of mm mc nn mt ct) (trim_of mm mc nn mt ct) mt ct qq) g e
     go false e = absurd (no_fit e)
 
 gains : (carry : Float) (u rate : ℕ → Float) (n s : ℕ) → Gains (gain_fit carry u rate n s)
 unfolding gain_fit fitted
-gains carry u rate n s pole g r e = solved_gain _ _ _ _ _ _ g r e
+gains carry u rate n s pole g e = solved_gain _ _ _ _ _ _ g e
 
 -- ---- a candidate whose pole lies in 0 to 1, with such a gain
 record Good (b : LagFit) : Type 0 where
@@ -82,7 +81,7 @@ better_good best kept p q = go (lt kept.residual best.residual)
     go false = p
 
 -- ---- the refinement keeps it so
-golden_good : (fit : Float → GainFit) → Gains fit → (n : ℕ) (low high : Float) (best : LagFit) (made : ℕ) → ZeroToOne low → ZeroToOne high → Good best
+golden_good : (fit : Float → Option GainFit) → Gains fit → (n : ℕ) (low high : Float) (best : LagFit) (made : ℕ) → ZeroToOne low → ZeroToOne high → Good best
     → Good (golden fit n low high best made).best
 unfolding golden
 golden_good fit g zero low high best made l h p = p
@@ -99,17 +98,17 @@ golden_good fit g (suc n) low high best made l h p =
     pick true x y p q = p
     pick false x y p q = q
 
-    go : (x y : GainFit) → fit (left_of low high) ≡ x → fit (right_of low high) ≡ y
+    go : (x y : Option GainFit) → fit (left_of low high) ≡ x → fit (right_of low high) ≡ y
         → ((l h : Float) (b : LagFit) → ZeroToOne l → ZeroToOne h → Good b → Good (golden fit n l h b (suc made)).best)
         → Good (onward (tried low high best x y) (λ l h b. golden fit n l h b (suc made)) (record { best = best; rounds = suc made })).best
-    go gain.Nothing y e f more = unfold tried in p
-    go (gain.Fit lg lr) gain.Nothing e f more = unfold tried in p
-    go (gain.Fit lg lr) (gain.Fit rg rr) e f more =
+    go None y e f more = unfold tried in p
+    go (Some a) None e f more = unfold tried in p
+    go (Some a) (Some b) e f more =
         let t = trials low high l h in
         unfold tried in
-        pick (lt lr rr) _ _
-        (more low (right_of low high) _ l t.right (better_good best _ p (record { pole = t.left; gain = g (left_of low high) lg lr e })))
-        (more (left_of low high) high _ t.left h (better_good best _ p (record { pole = t.right; gain = g (right_of low high) rg rr f })))
+        pick (lt a.residual b.residual) _ _
+        (more low (right_of low high) _ l t.right (better_good best _ p (record { pole = t.left; gain = g (left_of low high) a e })))
+        (more (left_of low high) high _ t.left h (better_good best _ p (record { pole = t.right; gain = g (right_of low high) b f })))
 
 -- ---- and so does the grid, with its brackets
 record Bracketed (b : LagFit) : Type 0 where
@@ -117,7 +116,7 @@ record Bracketed (b : LagFit) : Type 0 where
   low : ZeroToOne b.low
   high : ZeroToOne b.high
 
-refined_good : (fit : Float → GainFit) (b : LagFit) → Gains fit → Bracketed b → Good (refined fit b).best
+refined_good : (fit : Float → Option GainFit) (b : LagFit) → Gains fit → Bracketed b → Good (refined fit b).best
 unfolding refined
 refined_good fit b g p = golden_good fit g max_rounds b.low b.high b 0 p.low p.high p.good
 
@@ -134,16 +133,16 @@ module _ (dt : Float) (poles : (i : ℕ) → ZeroToOne (pole_of dt i)) where
       go true = poles (i + 1)
       go false = poles i
 
-  one_good : (fit : Float → GainFit) → Gains fit → (i : ℕ) (b : LagFit) → candidates (pole_of dt) lag_count fit i ≡ Best b → Bracketed b
+  one_good : (fit : Float → Option GainFit) → Gains fit → (i : ℕ) (b : LagFit) → candidates (pole_of dt) lag_count fit i ≡ Some b → Bracketed b
   one_good fit g i b e = go (fit (pole_of dt i)) refl e
     where
-      go : (x : GainFit) → fit (pole_of dt i) ≡ x → candidate (pole_of dt i) (low_end (pole_of dt) i) (high_end (pole_of dt) lag_count i) x ≡ Best b → Bracketed b
-      go gain.Nothing f e = absurd (let z : ◌≡◌ {A = ℕ} 0 1 = cc in omega arith)
-      go (gain.Fit k r) f e =
-          let same : record { pole = pole_of dt i; low = low_end (pole_of dt) i; high = high_end (pole_of dt) lag_count i; gain = k; residual = r } ≡ b = cc in
-          subst Bracketed same (record { good = record { pole = poles i; gain = g (pole_of dt i) k r f }; low = low_in i; high = high_in lag_count i })
+      go : (x : Option GainFit) → fit (pole_of dt i) ≡ x → candidate (pole_of dt i) (low_end (pole_of dt) i) (high_end (pole_of dt) lag_count i) x ≡ Some b → Bracketed b
+      go None f e = absurd (let z : ◌≡◌ {A = ℕ} 0 1 = cc in omega arith)
+      go (Some k) f e =
+          let same : lag_fit (pole_of dt i) (low_end (pole_of dt) i) (high_end (pole_of dt) lag_count i) k ≡ b = cc in
+          subst Bracketed same (record { good = record { pole = poles i; gain = g (pole_of dt i) k f }; low = low_in i; high = high_in lag_count i })
 
-  kept_good : (fit : ℕ → Float → GainFit) (s : ℕ) (b : LagFit) → Gains (fit s) → kept_at dt fit s ≡ Best b → Bracketed b
+  kept_good : (fit : ℕ → Float → Option GainFit) (s : ℕ) (b : LagFit) → Gains (fit s) → kept_at dt fit s ≡ Some b → Bracketed b
   unfolding kept_at
   kept_good fit s b g e =
       let f = candidates (pole_of dt) lag_count (fit s) in
@@ -207,24 +206,24 @@ model_finite b p dt g t =
     }
 
 -- ---- the law
-abbrev Holds : Fitted → Type 0
-Holds Nothing = Unit {0}
-Holds (Model m) = FiniteModel m
+abbrev Holds : Option RateModel → Type 0
+Holds None = Unit {0}
+Holds (Some m) = FiniteModel m
 
-module _ (dt : Float) (k : ℕ) (t : Within false 0 k dt) (fit : ℕ → Float → GainFit) (g : (s : ℕ) → Gains (fit s)) where
-  from_kept : (p : ℕ) (k : Kept) → kept_at dt fit (p - 1) ≡ k → Holds (chosen_from k (fit (p - 1)) p dt).fitted
+module _ (dt : Float) (k : ℕ) (t : Within false 0 k dt) (fit : ℕ → Float → Option GainFit) (g : (s : ℕ) → Gains (fit s)) where
+  from_kept : (p : ℕ) (k : Option LagFit) → kept_at dt fit (p - 1) ≡ k → Holds (chosen_from k (fit (p - 1)) p dt).model
   unfolding chosen_from modelled no_model
-  from_kept p Empty e = tt
-  from_kept p (Best b) e =
+  from_kept p None e = tt
+  from_kept p (Some b) e =
       let s = p - 1 in
       model_finite (refined (fit s) b).best p dt (refined_good (fit s) b (g s) (kept_good dt (pole_in dt k t) fit s b (g s) e)) (within_finite false 0 k dt t)
 
-  from_position : (q : Position) → Holds (chosen_at q dt fit).fitted
+  from_position : (q : Option ℕ) → Holds (chosen_at q dt fit).model
   unfolding chosen_at no_model
-  from_position Nowhere = tt
-  from_position (At p) = from_kept p (kept_at dt fit (p - 1)) refl
+  from_position None = tt
+  from_position (Some p) = from_kept p (kept_at dt fit (p - 1)) refl
 
-  searched_finite : Holds (searched dt fit).fitted
+  searched_finite : Holds (searched dt fit).model
   unfolding searched
   searched_finite = from_position (delay_to_fit zero32 (entries (kept_at dt fit)))
 
@@ -232,11 +231,11 @@ window_gains : (rates moments : List Float) (dt : Float) (n s : ℕ) → Gains (
 unfolding window_fit
 window_gains rates moments dt n s = gains (carry_of dt) (at moments) (at rates) (n - first_tick) s
 
-all_finite : (rates moments : List Float) (duration : Float) → NonNegative duration → Holds (fit_integrated rates moments duration).fitted
+all_finite : (rates moments : List Float) (duration : Float) → NonNegative duration → Holds (fit_integrated rates moments duration).model
 unfolding fit_integrated fit_long no_model
 all_finite rates moments duration d = go (leb (length rates) (first_tick + 1)) refl
   where
-    go : (b : Bool) → leb (length rates) (first_tick + 1) ≡ b → Holds (fit_long b rates moments duration (length rates)).fitted
+    go : (b : Bool) → leb (length rates) (first_tick + 1) ≡ b → Holds (fit_long b rates moments duration (length rates)).model
     go true e = tt
     go false e =
         let n = length rates in
@@ -244,5 +243,5 @@ all_finite rates moments duration d = go (leb (length rates) (first_tick + 1)) r
         let t = mean_tick duration n d (let l = leb-false n (first_tick + 1) e in omega arith) in
         searched_finite dt t.0 t.1 (window_fit rates moments dt n) (window_gains rates moments dt n)
 
-pub integrated_finite : (rates moments : List Float) (duration : Float) (m : RateModel) → NonNegative duration → (fit_integrated rates moments duration).fitted ≡ Model m → FiniteModel m
+pub integrated_finite : (rates moments : List Float) (duration : Float) (m : RateModel) → NonNegative duration → (fit_integrated rates moments duration).model ≡ Some m → FiniteModel m
 integrated_finite rates moments duration m d e = subst Holds e (all_finite rates moments duration d)

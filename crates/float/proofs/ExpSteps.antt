@@ -1,5 +1,5 @@
 -- The recursions of `specs/Exp.antt`, a step at a time, as the loops take it.
-use Rattle.std.proofs.Common.{◌≡◌, ℕ, suc, ◌+◌, ◌-◌, ◌<◌, true, false, pos, negsuc, sym, refl, ap, ◌∙◌, add-one, arith}
+use Rattle.std.proofs.Common.{◌≡◌, ℕ, suc, ◌+◌, ◌-◌, ◌<◌, ◌≤◌, true, false, pos, negsuc, refl, ap, arith}
 use lib.Ieee.{Float, binary64, of_bits, of_int, neg, add, mul, div, lt}
 use Rattle.float.specs.Values.{zero32, one64}
 use Rattle.float.specs.Narrow.{narrowed}
@@ -9,11 +9,12 @@ pub horner_first : (t : Float) → one64 ≡ horner t 0
 unfolding horner
 horner_first t = refl
 
-pub horner_next : (t last : Float) (k : ℕ) → last ≡ horner t k → add binary64 one64 (mul binary64 (div binary64 t (of_int binary64 (pos (8 - k)))) last) ≡ horner t (k + 1)
+pub horner_next : (t last : Float) (n : ℕ) → 0 < n → n ≤ 8 → last ≡ horner t (8 - n) → add binary64 one64 (mul binary64 (div binary64 t (of_int binary64 (pos n))) last) ≡ horner t (8 - (n - 1))
 unfolding horner
-horner_next t last k e =
-    ap (λ (y : Float). add binary64 one64 (mul binary64 (div binary64 t (of_int binary64 (pos (8 - k)))) y)) e
-    ∙ ap (horner t) (sym (add-one k))
+horner_next t last n p h e =
+    let more : 8 - (n - 1) ≡ suc (8 - n) = omega arith in
+    let left : 8 - (8 - n) ≡ n = omega arith in
+    rw (more, left, e)
 
 pub squared_next : (x : Float) (n k : ℕ) → k < n → squared (n - (k + 1)) (mul binary64 x x) ≡ squared (n - k) x
 unfolding squared

@@ -18,3 +18,5 @@ pub mod Fill
 pub mod WholeNumbers
 pub mod LogSteps
 pub mod LogFields
+pub mod Made
+pub mod Folds

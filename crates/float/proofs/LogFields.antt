@@ -5,14 +5,14 @@ use lib.Arith.{lt→nleb}
 use lib.Count.{count_trailing_zeros, leading_top}
 use lib.Dec.{nleb→lt}
 use lib.IntN.{pred_ℤ}
-use lib.Ieee.{Float, nan, inf, fin, binary32, binary64, odd, size, up, down, minus, round, div, neg, of_int, of_fields, of_bits, to_bits, is_nan, fits}
+use lib.Ieee.{Float, nan, inf, fin, binary32, binary64, odd, size, up, down, minus, round, div, of_int, of_fields, of_bits, to_bits, is_nan, fits}
 use lib.Ieee.Digits.{odd_val, size-lt, size-le, size_reaches}
 use lib.Ieee.Scale.{round_same}
 use lib.Ieee.Bits.{is_true, is_false}
 use Rattle.float.specs.Narrow.{narrowed}
 use Rattle.float.specs.Log.{log_from, log_split, log_at, wide_log, log_of}
 use Rattle.float.proofs.Digits.{size_gt, size_is}
-use Rattle.float.proofs.WholeNumbers.{ratio, minus_plus, pred_minus}
+use Rattle.float.proofs.WholeNumbers.{ratio, minus_plus}
 use Rattle.float.proofs.Rounding.{zeros_of}
 use Rattle.float.proofs.Fields.{subnormal, normal}
 use Rattle.float.proofs.Signs.{at_infinity, nan_below}
@@ -126,12 +126,12 @@ pub log_nan : log_of nan ≡ nan
 unfolding log_of wide_log narrowed
 log_nan = refl
 
-pub log_zero : div binary32 (neg (of_bits binary32 0x3f80_0000)) (of_bits binary32 0) ≡ log_of (of_bits binary32 0)
-unfolding log_of wide_log narrowed div neg of_bits
+pub log_zero : of_bits binary32 0xff80_0000 ≡ log_of (of_bits binary32 0)
+unfolding log_of wide_log narrowed of_bits
 log_zero = refl
 
-pub log_minus_zero : div binary32 (neg (of_bits binary32 0x3f80_0000)) (of_bits binary32 0) ≡ log_of (of_bits binary32 (2 ^ 31))
-unfolding log_of wide_log narrowed div neg of_bits
+pub log_minus_zero : of_bits binary32 0xff80_0000 ≡ log_of (of_bits binary32 (2 ^ 31))
+unfolding log_of wide_log narrowed of_bits
 log_minus_zero = refl
 
 log_minus_inf : log_of (inf true) ≡ nan
@@ -192,9 +192,9 @@ module _ (m e : ℕ) (some : 0 < m) (short : m < 2 ^ 24) where
       ∙ ap (log_from (round binary64 false m (2 ^ size m))) (q ∙ ap (of_int binary64) (k_is 149))
       ∙ sym (test_is true (le-leb (3 * top) (4 * m) h))
 
-  pub log_low : (k : Float) → k ≡ of_int binary64 (minus (e + (64 - zeros_of m)) 150) → 4 * m < 3 * top → log_from (div binary64 (of_int binary64 (pos (2 * m))) (of_int binary64 (pos top))) k ≡ log_at m (minus e 149)
+  pub log_low : (k : Float) → k ≡ of_int binary64 (pred_ℤ (minus (e + (64 - zeros_of m)) 149)) → 4 * m < 3 * top → log_from (div binary64 (of_int binary64 (pos (2 * m))) (of_int binary64 (pos top))) k ≡ log_at m (minus e 149)
   unfolding log_split
   log_low k q h =
       ap (λ (x : Float). log_from x k) (m_is (2 * m) (omega (arith, short)))
-      ∙ ap (log_from (round binary64 false (2 * m) (2 ^ size m))) (q ∙ ap (of_int binary64) (sym (pred_minus (e + (64 - zeros_of m)) 149) ∙ ap pred_ℤ (k_is 149)))
+      ∙ ap (log_from (round binary64 false (2 * m) (2 ^ size m))) (q ∙ ap (of_int binary64) (ap pred_ℤ (k_is 149)))
       ∙ sym (test_is false (lt-leb (3 * top) (4 * m) h))

@@ -1,7 +1,7 @@
--- The NaN is the one value that differs from itself, and its patterns are those above the infinity's, the sign aside.
-use Rattle.std.proofs.Common.{◌≡◌, ℕ, ◌*◌, ◌%◌, ◌<◌, ◌≤◌, Bool, true, false, not, T, sym, refl, ◌∙◌, subst, true≢false, le-ltb, lt-ltb}
-use lib.Ieee.{Float, Format, nan, inf, fin, hid, ones, top, of_bits, nan_bits, is_nan, ne}
-use lib.Ieee.Bits.{nan_bits_is, nan_bits_above, is_false}
+-- The NaN is the one value that differs from itself.
+use Rattle.std.proofs.Common.{◌≡◌, Bool, true, false, not, T, sym, refl, ◌∙◌, subst, true≢false}
+use lib.Ieee.{Float, nan, inf, fin, is_nan, ne}
+use lib.Ieee.Bits.{is_false}
 use lib.Ieee.Compare.{differs_from_itself, nan_differs}
 
 pub nan_by_test : (x : Float) → ne x x ≡ true → x ≡ nan
@@ -21,14 +21,9 @@ differs x = go (ne x x) refl
     go true e = subst (λ (y : Float). ne y y ≡ is_nan y) (sym (nan_by_test x e)) (unfold is_nan in nan_differs)
     go false e = e ∙ sym (is_false (is_nan x) (no_nan x e))
 
-only_nan : (x : Float) → is_nan x ≡ true → x ≡ nan
+-- what the library's test says
+pub only_nan : (x : Float) → is_nan x ≡ true → x ≡ nan
 unfolding is_nan
 only_nan nan e = refl
 only_nan (inf s) e = absurd (true≢false (sym e))
 only_nan (fin s m k) e = absurd (true≢false (sym e))
-
-pub nan_word : (f : Format) (w : ℕ) → ones f * hid f < w % top f → of_bits f w ≡ nan
-nan_word f w h = only_nan (of_bits f w) (sym (nan_bits_is f w) ∙ nan_bits_above f w ∙ lt-ltb (ones f * hid f) (w % top f) h)
-
-pub no_nan_word : (f : Format) (w : ℕ) → w % top f ≤ ones f * hid f → T (not (nan_bits f w))
-no_nan_word f w h = subst (λ (b : Bool). T (not b)) (sym (nan_bits_above f w ∙ le-ltb (ones f * hid f) (w % top f) h)) tt

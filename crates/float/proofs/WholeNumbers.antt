@@ -1,12 +1,14 @@
 -- Whole numbers as f64: their differences and quotients, each rounded once.
-use Rattle.std.proofs.Common.{◌≡◌, ℕ, zero, suc, ◌+◌, ◌-◌, ◌*◌, ◌^◌, ◌<◌, ◌≤◌, Bool, true, false, cond, not, T, ltb, leb, pos, negsuc, ◌+ℤ◌, sym, refl, ap, ◌∙◌, true≢false, le_of_lt, zero-lt-suc, mul_assoc, mul_comm, mul-pos, zero-mul, mul-one, mul_left_comm, arith, le→leb, ltb→lt, leb→le, nltb→le}
+use Rattle.std.proofs.Common.{◌≡◌, ℕ, zero, suc, ◌+◌, ◌-◌, ◌*◌, ◌^◌, ◌<◌, ◌≤◌, Bool, true, false, cond, not, T, ltb, leb, ℤ, pos, negsuc, ◌+ℤ◌, sym, refl, ap, ◌∙◌, true≢false, le_of_lt, zero-lt-suc, mul_assoc, mul_comm, mul-pos, zero-mul, mul-one, mul_left_comm, arith, le→leb, ltb→lt, leb→le, nltb→le}
 use lib.Arith.{lt→nleb}
 use lib.Dec.{eqb-suc-zero, nleb→lt}
-use lib.IntN.{pred_ℤ}
-use lib.Ieee.{Float, Format, nan, inf, fin, binary64, odd, units, up, down, minus, round, div, neg, of_int, prec, emax, low}
+use lib.IntN.{pred_ℤ, ◌-ℤ◌}
+use mir.Syntax.{w64}
+use mir.Val.{of_z, to_z}
+use Rattle.std.proofs.lemmas.Int.{ints}
+use lib.Ieee.{Float, nan, inf, fin, binary64, up, down, minus, round, div, of_int}
 use lib.Ieee.Exact.{HasValue}
-use lib.Ieee.Fits.{up_pos, down_pos, round_is}
-use lib.Ieee.Order.{kept, drop}
+use lib.Ieee.Fits.{up_pos, down_pos}
 use lib.Ieee.Scale.{round_same}
 use lib.Ieee.Bits.{is_true, is_false}
 use Rattle.float.proofs.Unit.{whole}
@@ -35,50 +37,20 @@ minus_plus a l b = go (leb l a) (leb→le l a) (nleb→lt l a)
             ap pos (let r : b - suc (l - suc a) ≡ a + b - l = omega arith in r)
             ∙ ap (λ (t : Bool). cond t (pos (a + b - l)) (negsuc (l - suc (a + b)))) (sym (is_true (leb l (a + b)) (le→leb l (a + b) (omega arith))))
 
-pub pred_minus : (a l : ℕ) → pred_ℤ (minus a l) ≡ minus a (suc l)
-pred_minus a l = go (leb l a) (leb→le l a) (nleb→lt l a)
-  where
-    go : (t : Bool) → (T t → l ≤ a) → (T (not t) → a < l) → pred_ℤ (cond t (pos (a - l)) (negsuc (l - suc a))) ≡ minus a (suc l)
-    go true u v = near (a - l) refl (u tt)
-      where
-        near : (d : ℕ) → a - l ≡ d → l ≤ a → pred_ℤ (pos d) ≡ minus a (suc l)
-        near zero e h =
-            ap negsuc (let r : 0 ≡ suc l - suc a = omega arith in r)
-            ∙ ap (λ (t : Bool). cond t (pos (a - suc l)) (negsuc (suc l - suc a))) (sym (is_false (leb (suc l) a) (lt→nleb (suc l) a (omega arith))))
-        near (suc d) e h =
-            ap pos (let r : d ≡ a - suc l = omega arith in r)
-            ∙ ap (λ (t : Bool). cond t (pos (a - suc l)) (negsuc (suc l - suc a))) (sym (is_true (leb (suc l) a) (le→leb (suc l) a (omega arith))))
-    go false u v =
-        let h = v tt in
-        ap negsuc (let r : suc (l - suc a) ≡ suc l - suc a = omega arith in r)
-        ∙ ap (λ (t : Bool). cond t (pos (a - suc l)) (negsuc (suc l - suc a))) (sym (is_false (leb (suc l) a) (lt→nleb (suc l) a (omega arith))))
+minus_is : (a l : ℕ) → minus a l ≡ pos a -ℤ pos l
+minus_is a l = grind (arith, ints)
 
--- ---- as f64
-neg_units : (f : Format) (q k : ℕ) → neg (units f false q k) ≡ units f true q k
-unfolding neg units odd
-neg_units f zero k = go (ltb (0 * 2 ^ k) (2 ^ (low f + suc (emax f))))
-  where
-    go : (b : Bool) → neg (cond b (odd (suc (prec f)) false 0 k (low f)) (inf false)) ≡ cond b (odd (suc (prec f)) true 0 k (low f)) (inf true)
-    go true = refl
-    go false = refl
-neg_units f (suc q) k = go (ltb (suc q * 2 ^ k) (2 ^ (low f + suc (emax f))))
-  where
-    go : (b : Bool) → neg (cond b (odd (suc (prec f)) false (suc q) k (low f)) (inf false)) ≡ cond b (odd (suc (prec f)) true (suc q) k (low f)) (inf true)
-    go true = refl
-    go false = refl
+-- as i64
+pub minus_i64 : (a l : ℕ) → a < 2 ^ 62 → l < 2 ^ 62 → to_z w64 (of_z w64 (to_z w64 (of_z w64 (to_z w64 a -ℤ pos l)))) ≡ minus a l
+minus_i64 a l h k = rw minus_is (omega (arith, ints))
 
-neg_round : (f : Format) (a c : ℕ) → neg (round f false a c) ≡ round f true a c
-neg_round f a c = ap neg (round_is f false a c) ∙ neg_units f (kept (prec f) (a * 2 ^ low f) c) (drop (prec f) (a * 2 ^ low f) c) ∙ sym (round_is f true a c)
+pred_is : (z : ℤ) → pred_ℤ z ≡ z -ℤ pos 1
+pred_is (pos zero) = refl
+pred_is (pos (suc n)) = grind (arith, ints)
+pred_is (negsuc n) = grind (arith, ints)
 
-pub minus_below : (a b : ℕ) → a < b → neg (of_int binary64 (pos (b - a))) ≡ of_int binary64 (minus a b)
-unfolding of_int
-minus_below a b h =
-    neg_round binary64 (b - a) 1
-    ∙ ap (λ (n : ℕ). round binary64 true n 1) (let r : b - a ≡ suc (b - suc a) = omega arith in r)
-    ∙ ap (λ (t : Bool). of_int binary64 (cond t (pos (a - b)) (negsuc (b - suc a)))) (sym (is_false (leb b a) (lt→nleb b a h)))
-
-pub minus_above : (a b : ℕ) → b ≤ a → of_int binary64 (pos (a - b)) ≡ of_int binary64 (minus a b)
-minus_above a b h = ap (λ (t : Bool). of_int binary64 (cond t (pos (a - b)) (negsuc (b - suc a)))) (sym (is_true (leb b a) (le→leb b a h)))
+pub pred_i64 : (a l : ℕ) → a < 2 ^ 62 → l < 2 ^ 62 → to_z w64 (of_z w64 (to_z w64 (of_z w64 (to_z w64 (of_z w64 (to_z w64 a -ℤ pos l)) -ℤ pos 1)))) ≡ pred_ℤ (minus a l)
+pred_i64 a l h k = rw (pred_is, minus_is) (omega (arith, ints))
 
 ratio_of : (x y : Float) (a c : ℕ) → 0 < c → HasValue x false a 1 → HasValue y false c 1 → div binary64 x y ≡ round binary64 false a c
 unfolding div

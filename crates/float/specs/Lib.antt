@@ -4,3 +4,4 @@ pub mod Root
 pub mod Exp
 pub mod Log
 pub mod Series
+pub mod Width

@@ -1,12 +1,14 @@
 // The float functions of 01, "Stand-ins for libm and nalgebra", and 32-bit words to and from floats.
 #![tactic(auto)]
 
-ghost use Rattle.std.specs.Prelude.{◌≡◌, ◌+◌, ◌*◌, ◌^◌, ◌<◌, ◌≤◌, min as minimum, T, ◌⊎◌, from_bits, is_nan, to_bits};
-ghost use Rattle.std.specs.Float.{nan, binary32, binary64};
-ghost use Rattle.std.specs.Float.Ieee.{minus, of_int, units, round, le};
+ghost use Rattle.std.specs.Prelude.{◌≡◌, ◌+◌, ◌*◌, ◌^◌, ◌<◌, ◌≤◌, T, ◌⊎◌, Float, from_bits, to_bits};
+ghost use Rattle.std.specs.Ordering.{partial_lt};
+ghost use Rattle.std.specs.Float.{Format, binary32, binary64};
+ghost use Rattle.std.specs.Float.Ieee.{minus, units, round, le, lt};
 ghost use Rattle.std.specs.Float.Ieee.Nearest.{closest};
 ghost use Rattle.std.specs.Float.Ieee.Positive.{positive};
 ghost use Rattle.float.specs.Values.{zero32, finite, max_zero, least};
+ghost use Rattle.float.specs.Width.{less_is_lt};
 ghost use Rattle.float.specs.Narrow.{narrowed};
 ghost use Rattle.float.specs.Root.{root_of, rooted, NearestRoot};
 ghost use Rattle.float.specs.Exp.{horner, squared, exp_of, InUnit};
@@ -14,53 +16,63 @@ ghost use Rattle.float.specs.Log.{log_sum, log_from, log_at, log_of};
 
 // ---- single values
 
-fn not_a_number() -> f32
-    ensures { result ≡ nan }
-{
-    0.0 / 0.0
-}
-
 // Whether x is neither a NaN nor an infinity.
 pub fn is_finite(x: f32) -> bool
     ensures { result ≡ finite x }
 {
-    let infinity: f32 = 1.0 / 0.0;
-    (-infinity < x) & (x < infinity)
+    x.is_finite()
 }
 
-pub fn is_nan(x: f32) -> bool
-    ensures { result ≡ is_nan x }
-{
-    x != x
+// A float of either width: the values that it holds, with their order and +0.
+pub trait Width: PartialOrd + Default + Copy + Drop {
+    ghost format: { Format };
+
+    ghost value: { Self → Float };
+
+    ghost less: { (x y : Self) → partial_lt Self.partial_cmp x y ≡ lt (value x) (value y) };
+
+    ghost zero: { (x : Self) → Self.is_default x → value x ≡ from_bits format 0 };
 }
 
-pub fn is_nan_f64(x: f64) -> bool
-    ensures { result ≡ is_nan x }
-{
-    x != x
+impl Width for f32 {
+    ghost format = { binary32 };
+
+    ghost value = { λ x. x };
+
+    ghost less = { less_is_lt };
+
+    ghost zero = { λ x e. e };
+}
+
+impl Width for f64 {
+    ghost format = { binary64 };
+
+    ghost value = { λ x. x };
+
+    ghost less = { less_is_lt };
+
+    ghost zero = { λ x e. e };
 }
 
 // v if v > 0, else +0, for a NaN too.
-pub fn max_zero(v: f32) -> f32
-    ensures { result ≡ max_zero binary32 v }
+pub fn max_zero<F: Width>(v: F) -> F
+    ensures { F.value result ≡ max_zero F.format (F.value v) }
 {
-    if v > 0.0 { v } else { 0.0 }
-}
-
-pub fn max_zero_f64(v: f64) -> f64
-    ensures { result ≡ max_zero binary64 v }
-{
-    if v > 0.0 { v } else { 0.0 }
+    let zero = F::default();
+    if zero < v { v } else { zero }
 }
 
 // The smaller of a and b, or the other one where one is a NaN.
 pub fn min(a: f32, b: f32) -> f32
     ensures { result ≡ least a b }
 {
-    if a != a {
-        return b;
+    if a.is_nan() {
+        b
+    } else if b < a {
+        b
+    } else {
+        a
     }
-    if b < a { b } else { a }
 }
 
 // ---- words
@@ -69,20 +81,14 @@ pub fn min(a: f32, b: f32) -> f32
 pub fn from_word(w: u32) -> f32
     ensures { result ≡ from_bits binary32 w }
 {
-    if 0x7f80_0000 < w % 0x8000_0000 {
-        return not_a_number();
-    }
-    f32::from_bits(w)
+    std::num::f32_from_bits_with_nan(w)
 }
 
 // The bit pattern of a float; a NaN gives 7FC00000.
 pub fn to_word(x: f32) -> u32
     ensures { result ≡ to_bits binary32 x }
 {
-    if x != x {
-        return 0x7fc0_0000;
-    }
-    f32::to_bits(x)
+    std::num::f32_to_bits_with_nan(x)
 }
 
 // ---- rounding to f32
@@ -104,26 +110,20 @@ fn to_nearest(m: u64, j: u64) -> u64
     quotient + quotient % 2
 }
 
-fn smaller(a: u64, b: u64) -> u64
-    ensures { result ≡ minimum a b }
-{
-    if a < b { a } else { b }
-}
-
 // q * 2^k times 2^-149, the smallest f32. A q of 2^24 carries into the exponent, and what is too
 // large becomes infinity's pattern.
 fn packed(negative: bool, q: u64, k: u64) -> f32
     requires { (q ≤ 2 ^ 24) × (k < 2 ^ 11) × ((k ≡ 0) ⊎ (2 ^ 23 ≤ q)) }
     ensures { result ≡ units binary32 negative q k }
 {
-    let magnitude: u64 = smaller(k * 0x80_0000 + q, 0x7f80_0000);
+    let magnitude: u64 = (k * 0x80_0000 + q).min(0x7f80_0000);
     if negative {
         return f32::from_bits((0x8000_0000 + magnitude) as u32);
     }
     f32::from_bits(magnitude as u32)
 }
 
-// m * 2^e times 2^-1074, the smallest f64, as the nearest f32.
+// m * 2^e times 2^-1074, the smallest f64, as the nearest f32. By the place of the highest set bit, as 01 names the form of a narrowing.
 fn nearest(negative: bool, m: u64, e: u64) -> f32
     requires { (m < 2 ^ 63) × (e < 2 ^ 11) }
     ensures { result ≡ round binary32 negative (m * 2 ^ e) (2 ^ 1074) }
@@ -132,7 +132,7 @@ fn nearest(negative: bool, m: u64, e: u64) -> f32
         return packed(negative, 0, 0);
     }
     // The highest set bit of n is 2^62; n * 2^w times 2^-1136 is the value.
-    let zeros: u64 = u64::leading_zeros(m) as u64;
+    let zeros: u64 = m.leading_zeros() as u64;
     let n: u64 = m << (zeros - 1);
     let w: u64 = e + 63 - zeros;
     if w < 924 {
@@ -148,10 +148,10 @@ fn nearest(negative: bool, m: u64, e: u64) -> f32
 pub fn narrow(x: f64) -> f32
     ensures { result ≡ narrowed x }
 {
-    if x != x {
-        return not_a_number();
+    if x.is_nan() {
+        return f32::NAN;
     }
-    let bits: u64 = f64::to_bits(x);
+    let bits: u64 = x.to_bits();
     let negative = bits >= 0x8000_0000_0000_0000;
     let exponent: u64 = bits % 0x8000_0000_0000_0000 / 0x10_0000_0000_0000;
     let fraction: u64 = bits % 0x10_0000_0000_0000;
@@ -175,7 +175,7 @@ fn root_of(m: u64, e: u64) -> f32
         return 0.0;
     }
     // n has 31 or 32 binary digits, and n * 2^16 * 4^k is m * 2^e.
-    let digits: u64 = 64 - (u64::leading_zeros(m) as u64);
+    let digits: u64 = 64 - m.leading_zeros() as u64;
     let k: u64 = (digits + e - 47) / 2;
     let n: u64 = m << (e - 2 * k - 16);
     let whole = whole_root::whole_root(n as u32);
@@ -192,15 +192,15 @@ pub fn root(x: f32) -> f32
     ensures value { result ≡ rooted x }
     ensures nearest { T (positive x) → NearestRoot x result }
 {
-    if x != x {
-        return not_a_number();
+    if x.is_nan() {
+        return f32::NAN;
     }
-    let bits: u32 = f32::to_bits(x);
+    let bits: u32 = x.to_bits();
     if bits == 0x8000_0000 {
         return x;
     }
     if bits > 0x8000_0000 {
-        return not_a_number();
+        return f32::NAN;
     }
     let exponent: u64 = (bits % 0x8000_0000 / 0x80_0000) as u64;
     if exponent == 255 {
@@ -208,7 +208,7 @@ pub fn root(x: f32) -> f32
     }
     let fraction: u64 = (bits % 0x80_0000) as u64;
     // The hidden digit, 0 in a subnormal value.
-    let hidden: u64 = smaller(exponent, 1);
+    let hidden: u64 = exponent.min(1);
     root_of(fraction + hidden * 0x80_0000, exponent + 149 - hidden)
 }
 
@@ -219,8 +219,7 @@ fn series(t: f64) -> f64
     ensures { result ≡ horner t 8 }
 {
     let mut last: f64 = 1.0;
-    for k in 0u64..8 {
-        let n = 8 - k;
+    for n in (1..=8u32).rev() {
         last = 1.0 + (t / (n as f64)) * last;
     }
     last
@@ -242,7 +241,7 @@ pub fn exp(x: f32) -> f32
     ensures value { result ≡ exp_of x }
     ensures unit { T (le x zero32) → InUnit result }
 {
-    let wide: f64 = std::num::f32_to_f64_with_nan(x);
+    let wide: f64 = f64::from(x);
     if wide < -104.0 {
         return 0.0;
     }
@@ -251,14 +250,13 @@ pub fn exp(x: f32) -> f32
 
 // ---- log
 
-// 1/n + q * (last), from 1/15, for n = 13 down to 1 by twos.
+// 1/n + q * (last), from 1/15, for n = 13 down to 1 by twos: n is 2 * k - 1.
 fn log_sum(q: f64) -> f64
     ensures { result ≡ log_sum q 7 }
 {
     let mut last: f64 = 1.0 / 15.0;
-    for j in 0u64..7 {
-        let n = 13 - 2 * j;
-        last = 1.0 / (n as f64) + q * last;
+    for k in (1..=7u32).rev() {
+        last = 1.0 / ((2 * k - 1) as f64) + q * last;
     }
     last
 }
@@ -271,29 +269,21 @@ fn log_from(m: f64, k: f64) -> f64
     k * 0.6931471805599453 + 2.0 * z * log_sum(z * z)
 }
 
-// a - b
-fn difference(a: u64, b: u64) -> f64
-    requires { (a < 2 ^ 53) × (b < 2 ^ 53) }
-    ensures { result ≡ of_int binary64 (minus a b) }
-{
-    if a < b {
-        return -((b - a) as f64);
-    }
-    (a - b) as f64
-}
-
 // The logarithm of m * 2^e times 2^-149, the smallest f32.
 fn log_of(m: u64, e: u64) -> f32
     requires { (0 < m) × (m < 2 ^ 24) × (e < 2 ^ 9) }
     ensures { result ≡ narrowed (log_at m (minus e 149)) }
 {
     // m / top is from 0.5 up to 1.
-    let digits: u64 = 64 - (u64::leading_zeros(m) as u64);
+    let digits: u64 = 64 - m.leading_zeros() as u64;
     let top: u64 = 1 << digits;
-    if 3 * top <= 4 * m {
-        return narrow(log_from((m as f64) / (top as f64), difference(e + digits, 149)));
-    }
-    narrow(log_from(((2 * m) as f64) / (top as f64), difference(e + digits, 150)))
+    let k = (e + digits) as i64 - 149;
+    let (m, k) = if 3 * top <= 4 * m {
+        (m, k)
+    } else {
+        (2 * m, k - 1)
+    };
+    narrow(log_from((m as f64) / (top as f64), k as f64))
 }
 
 // The logarithm of a positive value: it is written as m * 2^k with m from 0.75 up to 1.5, then a sum in f64, narrowed.
@@ -301,15 +291,15 @@ fn log_of(m: u64, e: u64) -> f32
 pub fn log(x: f32) -> f32
     ensures { result ≡ log_of x }
 {
-    if x != x {
-        return not_a_number();
+    if x.is_nan() {
+        return f32::NAN;
     }
-    let bits: u32 = f32::to_bits(x);
+    let bits: u32 = x.to_bits();
     if bits % 0x8000_0000 == 0 {
-        return -1.0 / 0.0;
+        return f32::NEG_INFINITY;
     }
     if bits > 0x8000_0000 {
-        return not_a_number();
+        return f32::NAN;
     }
     let exponent: u32 = bits % 0x8000_0000 / 0x80_0000;
     if exponent == 255 {

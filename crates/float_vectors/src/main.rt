@@ -4,11 +4,11 @@
 #![tactic(auto)]
 
 use std::io;
-use vectors::{double_at, double_is_at, flag, is_at, replay};
+use vectors::{double_at, double_is_at, is_at, replay};
 use wire::{read_float, read_word};
 
 fn finite_agrees(s: &[u8]) -> bool {
-    flag(float::is_finite(read_float(s, 0))) == read_word(s, 4)
+    u32::from(float::is_finite(read_float(s, 0))) == read_word(s, 4)
 }
 
 fn max_zero_agrees(s: &[u8]) -> bool {
@@ -16,7 +16,7 @@ fn max_zero_agrees(s: &[u8]) -> bool {
 }
 
 fn max_zero_f64_agrees(s: &[u8]) -> bool {
-    double_is_at(float::max_zero_f64(double_at(s, 0)), s, 8)
+    double_is_at(float::max_zero(double_at(s, 0)), s, 8)
 }
 
 fn min_agrees(s: &[u8]) -> bool {

@@ -5,7 +5,7 @@ use Rattle.float.specs.Values.{zero64}
 use Rattle.float.specs.Series.{sum_to}
 use Rattle.gain.specs.declared.StepSums.{StepSums}
 use Rattle.gain.specs.Gain.{leaky, through}
-use Rattle.gain.specs.Prepared.{Summed}
+use Rattle.gain.specs.Prepared.{Summed, tick_more}
 
 pub record Running (carry : Float) (x c t : ℕ → Float) (i : ℕ) (m : Float) (s : StepSums) : Type 0 where
   pub carried : m ≡ leaky carry x i
@@ -18,12 +18,8 @@ start carry x c t = record { carried = refl; sums = record { squares = refl; con
 abbrev leak : Float → Float → Float → Float
 leak carry m v = add binary64 (mul binary64 carry m) v
 
-abbrev plus : Float → Float → Float → Float
-plus s a b = add binary64 s (mul binary64 a b)
-
 pub next : (carry : Float) (x c t : ℕ → Float) (i : ℕ) (m : Float) (s : StepSums) (v : Float) → Running carry x c t i m s → v ≡ x i
-    → Running carry x c t (i + 1) (leak carry m v)
-    (record { mm = plus s.mm (leak carry m v) (leak carry m v); mc = plus s.mc (leak carry m v) (c i); mt = plus s.mt (leak carry m v) (t i) })
+    → Running carry x c t (i + 1) (leak carry m v) (tick_more s (leak carry m v) (c i) (t i))
 unfolding leaky sum_to
 next carry x c t i m s v r e =
     rw (add-one, e, r.carried)

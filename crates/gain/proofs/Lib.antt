@@ -1,4 +1,5 @@
 pub mod Below
 pub mod Accumulators
+pub mod Folds
 pub mod Window
 pub mod Examples

@@ -1,12 +1,11 @@
 -- One gain fit: 01, "The integrated fit and its refinement". Place i of a series is tick 11 + i.
-use Rattle.std.specs.Prelude.{ℕ, zero, suc, ◌+◌, ◌-◌, ◌/◌, ◌%◌, Bool, true, false, not, ◌&&◌, from_bits, is_nan, Float}
+use Rattle.std.specs.Prelude.{ℕ, zero, suc, ◌+◌, ◌-◌, ◌/◌, ◌%◌, Bool, true, false, not, ◌&&◌, from_bits, is_nan, Float, Option, Some, None}
 use Rattle.std.specs.Float.{binary32, binary64}
 use Rattle.std.specs.Float.Ieee.{add, sub, mul, div, lt}
 use Rattle.float.specs.Values.{zero64, one64, half64, finite, max_zero}
 use Rattle.float.specs.Narrow.{narrowed}
 use Rattle.float.specs.Series.{dot_to}
 use Rattle.gain.specs.declared.GainFit.{GainFit}
-use Rattle.gain.specs.declared.GainFit.TheVariants.{Nothing, Fit}
 use Rattle.lags.specs.Lags.{lag_to}
 
 -- "ticks 11 to stored - 1"
@@ -73,32 +72,33 @@ epsilon = from_bits binary64 0x3cb0_0000_0000_0000
 abbrev pub varies : (mm mc cc : Float) → Bool
 varies mm mc cc = lt (mul binary64 (mul binary64 epsilon mm) cc) (det mm mc cc)
 
-abbrev pub fit_if : Bool → GainFit → GainFit
+abbrev pub fit_if : Bool → Option GainFit → Option GainFit
 fit_if true fit = fit
-fit_if false fit = Nothing
+fit_if false fit = None
 
 -- 02, four: "A gain fit counts as none if that difference is NaN or its narrowed gain is not finite."
 abbrev pub is_sound : (gain difference : Float) → Bool
 is_sound gain difference = not (is_nan difference) && finite (narrowed gain)
 
 -- "residual = max(.., 0); gain and residual narrowed"
-unfoldable pub sound_fit : (gain difference : Float) → GainFit
-sound_fit gain difference = fit_if (is_sound gain difference) (Fit (narrowed gain) (narrowed (max_zero binary64 difference)))
+unfoldable pub sound_fit : (gain difference : Float) → Option GainFit
+sound_fit gain difference =
+    fit_if (is_sound gain difference) (Some (record { gain = narrowed gain; residual = narrowed (max_zero binary64 difference) }))
 
 -- the fit of the six sums, or none
-unfoldable pub solved : (mm mc cc mt ct tt : Float) → GainFit
+unfoldable pub solved : (mm mc cc mt ct tt : Float) → Option GainFit
 solved mm mc cc mt ct tt =
     let gain = gain_of mm mc cc mt ct in
     let trim = trim_of mm mc cc mt ct in
     fit_if (varies mm mc cc) (sound_fit gain (difference_of gain trim mt ct tt))
 
 -- "Six sums mm, mc, cc, mt, ct, tt" of the first n places of three series, solved
-unfoldable pub fitted : (m c t : ℕ → Float) → ℕ → GainFit
+unfoldable pub fitted : (m c t : ℕ → Float) → ℕ → Option GainFit
 fitted m c t n =
     solved (dot_to binary64 m m n) (dot_to binary64 m c n) (dot_to binary64 c c n)
     (dot_to binary64 m t n) (dot_to binary64 c t n) (dot_to binary64 t t n)
 
 -- one gain fit: of step s at a pole, over the n ticks from 11 on of a window's moments u and rates
-unfoldable pub gain_fit : Float → (u rate : ℕ → Float) → ℕ → ℕ → Float → GainFit
+unfoldable pub gain_fit : Float → (u rate : ℕ → Float) → ℕ → ℕ → Float → Option GainFit
 gain_fit carry u rate n s pole =
     fitted (through carry (regressor s pole u)) (through carry (λ i. one64)) (through carry (change rate)) n

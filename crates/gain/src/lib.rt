@@ -2,18 +2,19 @@
 #![tactic(auto)]
 
 ghost use Rattle.std.specs.Prelude.{◌≡◌, ◌-◌, ◌≤◌, min};
+ghost use Rattle.std.specs.Int.{from_bool};
 ghost use Rattle.std.specs.Float.{binary32, binary64};
 ghost use Rattle.std.specs.Float.Ieee.{add, sub, mul};
 ghost use Rattle.float.specs.Values.{one32, one64};
-ghost use Rattle.float.specs.Series.{at, dot_to, fill};
+ghost use Rattle.float.specs.Series.{at, fill};
 ghost use Rattle.gain.specs.Gain.{first_tick, blend as blend_of, change, through, sound_fit, solved};
-ghost use Rattle.gain.specs.Prepared.{series, ticks_of, Prepared};
+ghost use Rattle.gain.specs.Prepared.{series, ticks_of, products, tick_more, Prepared};
 
-// One gain fit: the gain and the residual, or no fit.
+// One gain fit.
 #[derive(Clone, Copy)]
-pub enum GainFit {
-    Nothing,
-    Fit(f32, f32),
+pub struct GainFit {
+    pub gain: f32,
+    pub residual: f32,
 }
 
 // What the gain fits of a window share: the carry, how many ticks are fitted, and the sums of the constant and the target.
@@ -31,7 +32,20 @@ impl Shared {
     pub fn fitted(self) -> usize
         ensures { result ≡ ticks_of self }
     {
-        if self.ticks < 2037 { self.ticks } else { 2037 }
+        self.ticks.min(2037)
+    }
+
+    // The fit that these sums and those of one step solve to.
+    pub fn solve(self, step: StepSums) -> Option<GainFit>
+        ensures { result ≡ solved step.mm step.mc self.cc step.mt self.ct self.tt }
+    {
+        let det = step.mm * self.cc - step.mc * step.mc;
+        if det > 2.220446049250313e-16 * step.mm * self.cc {
+            let gain = (step.mt * self.cc - step.mc * self.ct) / det;
+            let trim = (step.mm * self.ct - step.mc * step.mt) / det;
+            return sound_fit(gain, self.tt - gain * step.mt - trim * self.ct);
+        }
+        None
     }
 }
 
@@ -41,6 +55,28 @@ pub struct StepSums {
     pub mm: f64,
     pub mc: f64,
     pub mt: f64,
+}
+
+impl StepSums {
+    // With the values of one tick more.
+    pub fn plus(self, m: f64, c: f64, t: f64) -> StepSums
+        ensures { result ≡ tick_more self m c t }
+    {
+        StepSums {
+            mm: self.mm + m * m,
+            mc: self.mc + m * c,
+            mt: self.mt + m * t,
+        }
+    }
+}
+
+// What the gain fits of a window read: its moments, the leaky series of 1 and of the changes, and what the fits share.
+#[derive(Clone, Copy)]
+pub struct FitInput<'a> {
+    pub moments: &'a [f32; 2048],
+    pub constants: &'a [f64; 2048],
+    pub changes: &'a [f64; 2048],
+    pub shared: Shared,
 }
 
 // ---- the series
@@ -53,13 +89,13 @@ pub fn lag_on(pole: f32, lagged: f32, moment: f32) -> f32
 }
 
 // The moment that a step feels: the newer one, or at a half step half of each.
-pub fn blend(half: usize, newer: f64, older: f64) -> f64
-    ensures { result ≡ blend_of half newer older }
+pub fn blend(half: bool, newer: f64, older: f64) -> f64
+    ensures { result ≡ blend_of (from_bool half) newer older }
 {
-    if half == 0 {
-        return 1.0 * newer + 0.0 * older;
+    if half {
+        return 0.5 * newer + 0.5 * older;
     }
-    0.5 * newer + 0.5 * older
+    1.0 * newer + 0.0 * older
 }
 
 // The leaky sum of 1, tick by tick.
@@ -67,10 +103,10 @@ fn leaky_constants(carry: f64, ticks: usize, cs: &mut [f64; 2048])
     requires { ticks ≤ 2048 }
     ensures { cs.new ≡ fill (series (through carry (λ i. one64))) cs.old ticks }
 {
-    let mut c = 0.0f64;
-    for i in 0..ticks {
-        c = carry * c + 1.0;
-        cs[i] = c;
+    let mut sum = 0.0f64;
+    for c in cs[..ticks].iter_mut() {
+        sum = carry * sum + 1.0;
+        *c = sum;
     }
 }
 
@@ -79,40 +115,34 @@ fn leaky_changes(rates: &[f32; 2048], carry: f64, ticks: usize, ts: &mut [f64; 2
     requires { ticks ≤ 2037 }
     ensures { ts.new ≡ fill (series (through carry (change (at rates.now)))) ts.old ticks }
 {
-    let mut t = 0.0f64;
-    for i in 0..ticks {
-        let change = std::num::f32_to_f64_with_nan(rates[11 + i] - rates[10 + i]);
-        t = carry * t + change;
-        ts[i] = t;
+    let mut sum = 0.0f64;
+    for (i, t) in ts[..ticks].iter_mut().enumerate() {
+        sum = carry * sum + f64::from(rates[11 + i] - rates[10 + i]);
+        *t = sum;
     }
 }
 
 // ---- the sums
 
-fn dot(a: &[f64; 2048], b: &[f64; 2048], n: usize) -> f64
-    requires { n ≤ 2048 }
-    ensures { result ≡ dot_to binary64 (at a.now) (at b.now) n }
+// The sum of the products of two lists, entry by entry.
+fn dot(a: &[f64], b: &[f64]) -> f64
+    ensures { result ≡ products a.now b.now }
 {
-    let mut sum = 0.0f64;
-    for i in 0..n {
-        sum = sum + a[i] * b[i];
-    }
-    sum
+    a.iter().zip(b).fold(0.0f64, |sum, (x, y)| sum + x * y)
 }
 
 // The stored count, at most the 2,048 that a window holds.
 pub fn stored(len: usize) -> usize
     ensures { result ≡ min len 2048 }
 {
-    if len < 2048 { len } else { 2048 }
+    len.min(2048)
 }
 
 // How many ticks of a window are fitted: those from 11 on.
 fn fitted_ticks(len: usize) -> usize
     ensures { result ≡ min len 2048 - first_tick }
 {
-    let n = stored(len);
-    if n < 11 { 0 } else { n - 11 }
+    stored(len).saturating_sub(11)
 }
 
 // What does not depend on a pole or a step, once a window.
@@ -128,9 +158,11 @@ pub fn prepare(
     let ticks = fitted_ticks(len);
     leaky_constants(carry, ticks, cs);
     leaky_changes(rates, carry, ticks, ts);
-    let cc = dot(cs, cs, ticks);
-    let ct = dot(cs, ts, ticks);
-    let tt = dot(ts, ts, ticks);
+    let constants = &cs[..ticks];
+    let changes = &ts[..ticks];
+    let cc = dot(constants, constants);
+    let ct = dot(constants, changes);
+    let tt = dot(changes, changes);
     Shared {
         carry,
         ticks,
@@ -143,27 +175,17 @@ pub fn prepare(
 // ---- the solution
 
 // A gain and a difference before max as a fit, narrowed. None where the difference is NaN or the narrowed gain is not finite.
-fn sound_fit(gain: f64, difference: f64) -> GainFit
+fn sound_fit(gain: f64, difference: f64) -> Option<GainFit>
     ensures { result ≡ sound_fit gain difference }
 {
-    let residual = float::max_zero_f64(difference);
+    let residual = float::max_zero(difference);
     let narrow_gain = float::narrow(gain);
     let narrow_residual = float::narrow(residual);
-    if !float::is_nan_f64(difference) & float::is_finite(narrow_gain) {
-        return GainFit::Fit(narrow_gain, narrow_residual);
+    if !difference.is_nan() & float::is_finite(narrow_gain) {
+        return Some(GainFit {
+            gain: narrow_gain,
+            residual: narrow_residual,
+        });
     }
-    GainFit::Nothing
-}
-
-// The gain and the residual of the six sums.
-pub fn solve(mm: f64, mc: f64, cc: f64, mt: f64, ct: f64, tt: f64) -> GainFit
-    ensures { result ≡ solved mm mc cc mt ct tt }
-{
-    let det = mm * cc - mc * mc;
-    if det > 2.220446049250313e-16 * mm * cc {
-        let gain = (mt * cc - mc * ct) / det;
-        let trim = (mm * ct - mc * mt) / det;
-        return sound_fit(gain, tt - gain * mt - trim * ct);
-    }
-    GainFit::Nothing
+    None
 }

@@ -1,10 +1,10 @@
 -- The refinement, a golden-section search between the ends of a bracket: 01, "The integrated fit and its refinement".
-use Rattle.std.specs.Prelude.{ℕ, zero, suc, Bool, true, false, Float}
+use Rattle.std.specs.Prelude.{ℕ, zero, suc, Bool, true, false, Float, Option, Some, None}
 use Rattle.std.specs.Float.{binary32}
 use Rattle.std.specs.Float.Ieee.{add, sub, mul, lt, of_bits}
 use Rattle.gain.specs.declared.GainFit.{GainFit}
-use Rattle.gain.specs.declared.GainFit.TheVariants.{Nothing, Fit}
 use Rattle.grid.specs.declared.LagFit.{LagFit}
+use Rattle.grid.specs.Grid.{lag_fit}
 use Rattle.golden.specs.declared.Refined.{Refined}
 
 -- 0.618034
@@ -36,13 +36,13 @@ pick_round true a b = a
 pick_round false a b = b
 
 -- "the round in which either trial has no fit ends the search. Left strictly smaller: high = right, keep left; else low = left, keep right."
-unfoldable pub tried : (low high : Float) → LagFit → GainFit → GainFit → Round
-tried low high best Nothing r = over
-tried low high best (Fit lg lr) Nothing = over
-tried low high best (Fit lg lr) (Fit rg rr) =
-    pick_round (lt lr rr)
-    (on low (right_of low high) (better_of best (record { pole = left_of low high; low = low; high = high; gain = lg; residual = lr })))
-    (on (left_of low high) high (better_of best (record { pole = right_of low high; low = low; high = high; gain = rg; residual = rr })))
+unfoldable pub tried : (low high : Float) → LagFit → Option GainFit → Option GainFit → Round
+tried low high best None r = over
+tried low high best (Some l) None = over
+tried low high best (Some l) (Some r) =
+    pick_round (lt l.residual r.residual)
+    (on low (right_of low high) (better_of best (lag_fit (left_of low high) low high l)))
+    (on (left_of low high) high (better_of best (lag_fit (right_of low high) low high r)))
 
 -- what follows a round: the rest of the search, or its end
 abbrev pub onward : Round → ((low high : Float) → LagFit → Refined) → Refined → Refined
@@ -50,7 +50,7 @@ onward over go end = end
 onward (on low high best) go end = go low high best
 
 -- at most n rounds more between low and high, with the best so far and the rounds made: the best candidate and all rounds made
-unfoldable pub golden : (Float → GainFit) → ℕ → (low high : Float) → LagFit → ℕ → Refined
+unfoldable pub golden : (Float → Option GainFit) → ℕ → (low high : Float) → LagFit → ℕ → Refined
 golden fit zero low high best made = record { best = best; rounds = made }
 golden fit (suc n) low high best made =
     onward (tried low high best (fit (left_of low high)) (fit (right_of low high)))
@@ -62,5 +62,5 @@ abbrev pub max_rounds : ℕ
 max_rounds = 12
 
 -- a candidate refined between its own ends
-unfoldable pub refined : (Float → GainFit) → LagFit → Refined
+unfoldable pub refined : (Float → Option GainFit) → LagFit → Refined
 refined fit b = golden fit max_rounds b.low b.high b 0

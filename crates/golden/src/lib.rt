@@ -2,12 +2,11 @@
 #![tactic(auto)]
 
 ghost use Rattle.std.specs.Prelude.{◌≡◌, ◌≤◌};
-ghost use Rattle.float.specs.Series.{at};
-ghost use Rattle.gain.specs.Prepared.{fit_with};
+ghost use Rattle.gain.specs.Prepared.{fit_of};
 ghost use Rattle.golden.specs.Golden.{better_of, max_rounds, refined};
 
-use gain::{GainFit, Shared};
-use grid::LagFit;
+use gain::FitInput;
+use grid::{Bracket, LagFit};
 
 // What the refinement yields: the best candidate and the rounds made.
 #[derive(Clone, Copy)]
@@ -27,55 +26,38 @@ fn better(best: LagFit, kept: LagFit) -> LagFit
 }
 
 // A golden-section search between the ends of a candidate, at one step.
-pub fn refine(
-    moments: &[f32; 2048],
-    cs: &[f64; 2048],
-    ts: &[f64; 2048],
-    w: Shared,
-    step: usize,
-    grid_fit: LagFit,
-) -> Refined
-    ensures { (result ≡ refined (fit_with w (at moments.now) (at cs.now) (at ts.now) step) grid_fit) × (result.rounds ≤ max_rounds) }
+pub fn refine(input: FitInput<'_>, step: usize, grid_fit: LagFit) -> Refined
+    ensures { (result ≡ refined (fit_of input.entry step) grid_fit) × (result.rounds ≤ max_rounds) }
 {
     let mut low = grid_fit.low;
     let mut high = grid_fit.high;
     let mut best = grid_fit;
-    let mut rounds: u32 = 0;
-    while rounds < 12 {
+    let mut rounds = 0u32;
+    for made in 0..12u32 {
         let left = high - 0.618034 * (high - low);
         let right = low + 0.618034 * (high - low);
-        let left_fit = trial::fit_at(moments, cs, ts, w, step, left);
-        let right_fit = trial::fit_at(moments, cs, ts, w, step, right);
-        rounds += 1;
-        let GainFit::Fit(left_gain, left_residual) = left_fit else {
+        rounds = made + 1;
+        let Some(left_fit) = trial::fit_at(input, step, left) else {
             break;
         };
-        let GainFit::Fit(right_gain, right_residual) = right_fit else {
+        let Some(right_fit) = trial::fit_at(input, step, right) else {
             break;
         };
-        if left_residual < right_residual {
-            best = better(
-                best,
-                LagFit {
-                    pole: left,
-                    low: low,
-                    high: high,
-                    gain: left_gain,
-                    residual: left_residual,
-                },
-            );
+        if left_fit.residual < right_fit.residual {
+            let kept = Bracket {
+                pole: left,
+                low,
+                high,
+            };
+            best = better(best, kept.candidate(left_fit));
             high = right;
         } else {
-            best = better(
-                best,
-                LagFit {
-                    pole: right,
-                    low: low,
-                    high: high,
-                    gain: right_gain,
-                    residual: right_residual,
-                },
-            );
+            let kept = Bracket {
+                pole: right,
+                low,
+                high,
+            };
+            best = better(best, kept.candidate(right_fit));
             low = left;
         }
     }

@@ -6,41 +6,41 @@ use mathlib.Core.Logic.{⊎_elim}
 use native.Mathlib.Nat.{eq-or-lt_of_le, le_of_suc-le-suc}
 use native.Mathlib.Omega.{arith}
 use lib.Ieee.{lt}
-use Rattle.grid.specs.declared.Kept.{Kept}
-use Rattle.grid.specs.declared.Kept.TheVariants.{Best, Empty}
+use Rattle.std.specs.Prelude.{Option, Some, None}
+use Rattle.grid.specs.declared.LagFit.{LagFit}
 use Rattle.grid.specs.Grid.{keep_of, kept_to, pick_kept, KeepsFirst}
 use Rattle.grid.proofs.Order.{lt_self, not_below, not_at_most}
 
-module _ (f : ℕ → Kept) (n : ℕ) where
+module _ (f : ℕ → Option LagFit) (n : ℕ) where
   -- what holds of each place below n, and of n, holds of each below the next
   more : {P : ℕ → Type 0} → ((i : ℕ) → i < n → P i) → P n → (i : ℕ) → i < suc n → P i
   more {P} h z i p = ⊎_elim (λ (q : i ≡ n). subst (λ (j : ℕ). P j) (sym q) z) (λ (q : i < n). h i q) (eq-or-lt_of_le (le_of_suc-le-suc p))
 
-  step : (k x : Kept) → KeepsFirst f n k → f n ≡ x → KeepsFirst f (suc n) (keep_of k x)
+  step : (k x : Option LagFit) → KeepsFirst f n k → f n ≡ x → KeepsFirst f (suc n) (keep_of k x)
   unfolding keep_of
-  step Empty Empty h e = more {P = λ i. f i ≡ Empty} h e
-  step (Best a) Empty h e = record {
+  step None None h e = more {P = λ i. f i ≡ None} h e
+  step (Some a) None h e = record {
     place = h.place;
     inside = omega (arith, h.inside);
     is = h.is;
-    least = λ i z p q. more {P = λ i. f i ≡ Best z → lt z.residual a.residual ≡ false} (λ i p q. h.least i z p q) (λ q. cc) i p q;
+    least = λ i z p q. more {P = λ i. f i ≡ Some z → lt z.residual a.residual ≡ false} (λ i p q. h.least i z p q) (λ q. cc) i p q;
     first = h.first;
   }
-  step Empty (Best b) h e = record {
+  step None (Some b) h e = record {
     place = n;
     inside = omega arith;
     is = e;
-    least = λ i z p q. more {P = λ i. f i ≡ Best z → lt z.residual b.residual ≡ false} (λ i p q. let w = h i p in cc) (λ q. let w : z ≡ b = cc in rw w (lt_self b.residual)) i p q;
+    least = λ i z p q. more {P = λ i. f i ≡ Some z → lt z.residual b.residual ≡ false} (λ i p q. let w = h i p in cc) (λ q. let w : z ≡ b = cc in rw w (lt_self b.residual)) i p q;
     first = λ i z p q. let w = h i p in cc;
   }
-  step (Best a) (Best b) h e = go (lt b.residual a.residual) refl
+  step (Some a) (Some b) h e = go (lt b.residual a.residual) refl
     where
-      go : (t : Bool) → lt b.residual a.residual ≡ t → KeepsFirst f (suc n) (pick_kept t (Best b) (Best a))
+      go : (t : Bool) → lt b.residual a.residual ≡ t → KeepsFirst f (suc n) (pick_kept t (Some b) (Some a))
       go true g = record {
         place = n;
         inside = omega arith;
         is = e;
-        least = λ i z p q. more {P = λ i. f i ≡ Best z → lt z.residual b.residual ≡ false}
+        least = λ i z p q. more {P = λ i. f i ≡ Some z → lt z.residual b.residual ≡ false}
             (λ i p q. not_below z.residual b.residual a.residual (h.least i z p q) g) (λ q. let w : z ≡ b = cc in rw w (lt_self b.residual)) i p q;
         first = λ i z p q. not_at_most z.residual b.residual a.residual (h.least i z p q) g;
       }
@@ -48,11 +48,11 @@ module _ (f : ℕ → Kept) (n : ℕ) where
         place = h.place;
         inside = omega (arith, h.inside);
         is = h.is;
-        least = λ i z p q. more {P = λ i. f i ≡ Best z → lt z.residual a.residual ≡ false} (λ i p q. h.least i z p q) (λ q. let w : z ≡ b = cc in rw w g) i p q;
+        least = λ i z p q. more {P = λ i. f i ≡ Some z → lt z.residual a.residual ≡ false} (λ i p q. h.least i z p q) (λ q. let w : z ≡ b = cc in rw w g) i p q;
         first = h.first;
       }
 
-pub keeps_first : (f : ℕ → Kept) (n : ℕ) → KeepsFirst f n (kept_to f n)
+pub keeps_first : (f : ℕ → Option LagFit) (n : ℕ) → KeepsFirst f n (kept_to f n)
 unfolding kept_to
 keeps_first f zero = λ i p. absurd (omega arith)
 keeps_first f (suc n) = step f n (kept_to f n) (f n) (keeps_first f n) refl

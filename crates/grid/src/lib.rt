@@ -1,14 +1,14 @@
 // The grid: what each step keeps of the gain fits at all poles.
 #![tactic(auto)]
 
-ghost use Rattle.std.specs.Prelude.{◌≡◌, ◌≤◌};
-ghost use Rattle.float.specs.Series.{at, fill};
+ghost use Rattle.std.specs.Prelude.{◌≡◌};
+ghost use Rattle.float.specs.Series.{fill};
 ghost use Rattle.gain.specs.Gain.{step_count};
-ghost use Rattle.gain.specs.Prepared.{fit_with};
-ghost use Rattle.grid.specs.Grid.{candidate, keep_of};
+ghost use Rattle.gain.specs.Prepared.{fit_of};
+ghost use Rattle.grid.specs.Grid.{lag_fit, candidate, keep_of};
 ghost use Rattle.grid.specs.Steps.{against, KeptTable};
 
-use gain::{GainFit, Shared};
+use gain::{FitInput, GainFit};
 
 // A candidate: its pole, the ends of the bracket around it, its gain and its residual.
 #[derive(Clone, Copy)]
@@ -20,79 +20,95 @@ pub struct LagFit {
     pub residual: f32,
 }
 
-// The candidate that a step keeps, or none yet.
+// A pole and the ends of the bracket around it.
 #[derive(Clone, Copy)]
-pub enum Kept {
-    Empty,
-    Best(LagFit),
+pub struct Bracket {
+    pub pole: f32,
+    pub low: f32,
+    pub high: f32,
+}
+
+impl Bracket {
+    // The candidate that a fit at the pole makes.
+    pub fn candidate(self, fit: GainFit) -> LagFit
+        ensures { result ≡ lag_fit self.pole self.low self.high fit }
+    {
+        LagFit {
+            pole: self.pole,
+            low: self.low,
+            high: self.high,
+            gain: fit.gain,
+            residual: fit.residual,
+        }
+    }
 }
 
 // The first fit is kept until a strictly smaller residual replaces it.
-fn keep(kept: Kept, pole: f32, low: f32, high: f32, fit: GainFit) -> Kept
-    ensures { result ≡ keep_of kept (candidate pole low high fit) }
+fn keep(kept: Option<LagFit>, bracket: Bracket, fit: Option<GainFit>) -> Option<LagFit>
+    ensures { result ≡ keep_of kept (candidate bracket.pole bracket.low bracket.high fit) }
 {
-    let GainFit::Fit(gain, residual) = fit else {
+    let Some(fit) = fit else {
         return kept;
     };
-    let next = LagFit {
-        pole,
-        low,
-        high,
-        gain,
-        residual,
+    let next = bracket.candidate(fit);
+    let Some(best) = kept else {
+        return Some(next);
     };
-    let Kept::Best(best) = kept else {
-        return Kept::Best(next);
-    };
-    if residual < best.residual {
-        Kept::Best(next)
+    if fit.residual < best.residual {
+        Some(next)
     } else {
         kept
     }
 }
 
-// What each step keeps, against its fit at one more pole: pole q, 0 to 2, of those that the fits are of.
-fn keep_each(
-    kept: [Kept; 20],
-    pole: f32,
-    low: f32,
-    high: f32,
-    fits: [GainFit; 60],
-    q: usize,
-) -> [Kept; 20]
-    requires { q ≤ 2 }
-    ensures { result ≡ fill (against pole low high fits q) kept step_count }
+// What each step keeps, against its fit at one more pole.
+fn keep_each(kept: &mut [Option<LagFit>; 20], bracket: Bracket, fits: [Option<GainFit>; 20])
+    ensures { kept.new ≡ fill (against bracket.pole bracket.low bracket.high fits) kept.old step_count }
 {
-    let mut next = kept;
-    for s in 0..20usize {
-        let k = next[s];
-        let fit = fits[s / 2 * 6 + (q * 2 + s % 2)];
-        next[s] = keep(k, pole, low, high, fit);
+    for (s, best) in kept.iter_mut().enumerate() {
+        *best = keep(*best, bracket, fits[s]);
     }
-    next
 }
 
-// What each step keeps of all poles, three of them at a time, from a window's moments, its leaky series and their sums. The pole above the last is the last.
-pub fn keep_poles(
-    moments: &[f32; 2048],
-    cs: &[f64; 2048],
-    ts: &[f64; 2048],
-    w: Shared,
-    dt_s: f32,
-) -> [Kept; 20]
-    ensures { KeptTable dt_s (fit_with w (at moments.now) (at cs.now) (at ts.now)) result }
+// What each step keeps of all poles, three of them at a time. The pole above the last is the last.
+pub fn keep_poles(input: FitInput<'_>, dt_s: f32) -> [Option<LagFit>; 20]
+    ensures { KeptTable dt_s (fit_of input.entry) result }
 {
-    let mut kept = [Kept::Empty; 20];
+    let mut kept = [None; 20];
     let mut low = 0.0f32;
     let mut pole = 0.0f32;
     for i in 0..43usize {
         let second = lags::pole(dt_s, i * 3 + 1);
         let third = lags::pole(dt_s, i * 3 + 2);
         let high = lags::pole(dt_s, i * 3 + 3);
-        let fits = kernel::fit_steps(moments, [pole, second, third], cs, ts, w);
-        let one = keep_each(kept, pole, low, second, fits, 0);
-        let two = keep_each(one, second, pole, third, fits, 1);
-        kept = keep_each(two, third, second, high, fits, 2);
+        let fits = kernel::fit_steps(input, [pole, second, third]);
+        keep_each(
+            &mut kept,
+            Bracket {
+                pole,
+                low,
+                high: second,
+            },
+            fits[0],
+        );
+        keep_each(
+            &mut kept,
+            Bracket {
+                pole: second,
+                low: pole,
+                high: third,
+            },
+            fits[1],
+        );
+        keep_each(
+            &mut kept,
+            Bracket {
+                pole: third,
+                low: second,
+                high,
+            },
+            fits[2],
+        );
         low = third;
         pole = high;
     }

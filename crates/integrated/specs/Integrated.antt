@@ -6,17 +6,12 @@ use Rattle.float.specs.Values.{zero32, one32, whole32}
 use Rattle.float.specs.Series.{at, fill}
 use Rattle.delay.specs.declared.RateModel.{RateModel}
 use Rattle.delay.specs.declared.Entry.{Entry}
-use Rattle.delay.specs.declared.Entry.TheVariants as entry
-use Rattle.delay.specs.declared.Position.{Position}
-use Rattle.delay.specs.declared.Position.TheVariants.{Nowhere, At}
+use Rattle.std.specs.Prelude.{Option, Some, None}
 use Rattle.delay.specs.HalfTicks.{of_integrated}
 use Rattle.delay.specs.Tie.{delay_to_fit, entry_count}
 use Rattle.gain.specs.declared.GainFit.{GainFit}
 use Rattle.grid.specs.declared.LagFit.{LagFit}
-use Rattle.grid.specs.declared.Kept.{Kept}
-use Rattle.grid.specs.declared.Kept.TheVariants.{Empty, Best}
 use Rattle.golden.specs.declared.Refined.{Refined}
-use Rattle.integrated.specs.declared.Fitted.TheVariants.{Nothing, Model}
 use Rattle.integrated.specs.declared.IntegratedFit.{IntegratedFit}
 use Rattle.lags.specs.Lags.{lag_count, carry_of}
 use Rattle.gain.specs.Gain.{first_tick, step_count, is_half, gain_fit}
@@ -24,12 +19,12 @@ use Rattle.grid.specs.Grid.{kept_at}
 use Rattle.golden.specs.Golden.{refined}
 
 -- "The tie rule with gain as effect"
-unfoldable pub entry_of : Kept → Entry
-entry_of Empty = entry.Missing
-entry_of (Best b) = entry.Fit b.gain b.residual
+unfoldable pub entry_of : Option LagFit → Option Entry
+entry_of None = None
+entry_of (Some b) = Some (record { effect = b.gain; residual = b.residual })
 
-unfoldable pub entries : (ℕ → Kept) → List Entry
-entries kept = fill (λ s l. entry_of (kept s)) (replicate entry_count entry.Missing) step_count
+unfoldable pub entries : (ℕ → Option LagFit) → List (Option Entry)
+entries kept = fill (λ s l. entry_of (kept s)) (replicate entry_count None) step_count
 
 -- the share of the gain on the newer moment, a, and on the older one, b: (1, 0) of a whole step, (0.5, 0.5) of a half one
 abbrev pub newer_share : ℕ → Float
@@ -58,22 +53,22 @@ grid_fits = suc lag_count * step_count
 
 -- the refined candidate as a model, and two gain fits for each round made
 unfoldable pub modelled : Refined → ℕ → Float → IntegratedFit
-modelled r p dt = record { fitted = Model (model_of r.best p dt); gain_fits = grid_fits + 2 * r.rounds }
+modelled r p dt = record { model = Some (model_of r.best p dt); gain_fits = grid_fits + 2 * r.rounds }
 
 unfoldable pub no_model : ℕ → IntegratedFit
-no_model n = record { fitted = Nothing; gain_fits = n }
+no_model n = record { model = None; gain_fits = n }
 
-unfoldable pub chosen_from : Kept → (Float → GainFit) → ℕ → Float → IntegratedFit
-chosen_from Empty fit p dt = no_model grid_fits
-chosen_from (Best b) fit p dt = modelled (refined fit b) p dt
+unfoldable pub chosen_from : Option LagFit → (Float → Option GainFit) → ℕ → Float → IntegratedFit
+chosen_from None fit p dt = no_model grid_fits
+chosen_from (Some b) fit p dt = modelled (refined fit b) p dt
 
 -- "gives position p; step = p - 1. No position: Unexcited."
-unfoldable pub chosen_at : Position → Float → (ℕ → Float → GainFit) → IntegratedFit
-chosen_at Nowhere dt fit = no_model grid_fits
-chosen_at (At p) dt fit = chosen_from (kept_at dt fit (p - 1)) (fit (p - 1)) p dt
+unfoldable pub chosen_at : Option ℕ → Float → (ℕ → Float → Option GainFit) → IntegratedFit
+chosen_at None dt fit = no_model grid_fits
+chosen_at (Some p) dt fit = chosen_from (kept_at dt fit (p - 1)) (fit (p - 1)) p dt
 
 -- "The tie rule with gain as effect and share 0"
-unfoldable pub searched : Float → (ℕ → Float → GainFit) → IntegratedFit
+unfoldable pub searched : Float → (ℕ → Float → Option GainFit) → IntegratedFit
 searched dt fit = chosen_at (delay_to_fit zero32 (entries (kept_at dt fit))) dt fit
 
 -- "dt_s = duration/stored"
@@ -81,7 +76,7 @@ abbrev pub mean_dt : Float → ℕ → Float
 mean_dt duration stored = div binary32 duration (whole32 stored)
 
 -- the gain fit of each step at each pole, of a window of n ticks
-unfoldable pub window_fit : List Float → List Float → Float → ℕ → ℕ → Float → GainFit
+unfoldable pub window_fit : List Float → List Float → Float → ℕ → ℕ → Float → Option GainFit
 window_fit rates moments dt n s pole = gain_fit (carry_of dt) (at moments) (at rates) (n - first_tick) s pole
 
 -- "stored <= 12: Unexcited"

@@ -5,9 +5,8 @@
 ghost use Rattle.std.specs.Prelude.{◌≤◌};
 
 use delay::RateModel;
-use gain::GainFit;
-use grid::Kept;
-use integrated::Fitted;
+use gain::FitInput;
+use grid::LagFit;
 use std::io;
 use vectors::{double_at, is_at, replay};
 use wire::{read_float, read_word};
@@ -17,27 +16,23 @@ fn count(s: &[u8]) -> usize
     ensures { result ≤ 2048 }
 {
     let n = read_word(s, 0);
-    if n < 2048 { n as usize } else { 2048 }
+    n.min(2048) as usize
 }
 
 // Every second word from a place on.
 fn load(s: &[u8], first: usize, n: usize, values: &mut [f32; 2048])
     requires { (first ≤ 100) × (n ≤ 2048) }
 {
-    for k in 0..n {
-        values[k] = read_float(s, first + k * 8);
+    for (k, value) in values[..n].iter_mut().enumerate() {
+        *value = read_float(s, first + k * 8);
     }
 }
 
 // f dt_s, 129 f poles, carry as f64 bits.
 fn poles_agree(s: &[u8]) -> bool {
     let dt_s = read_float(s, 0);
-    for i in 0..129usize {
-        if !is_at(lags::pole(dt_s, i), s, 4 + i * 4) {
-            return false;
-        }
-    }
-    std::num::f32_to_f64_with_nan(lags::carry(dt_s)) == double_at(s, 520)
+    (0..129usize).all(|i| is_at(lags::pole(dt_s, i), s, 4 + i * 4))
+        & (f64::from(lags::carry(dt_s)) == double_at(s, 520))
 }
 
 // w stored, w step, carry as f64 bits; each f rate, f lagged; w 1 for a fit, else 0; f gain, f residual.
@@ -58,20 +53,20 @@ fn gain_agrees(s: &[u8]) -> bool {
     );
     let end = 16 + n * 8;
     match fit {
-        GainFit::Nothing => read_word(s, end) == 0,
-        GainFit::Fit(gain, residual) => (read_word(s, end) == 1)
-            & is_at(gain, s, end + 4)
-            & is_at(residual, s, end + 8),
+        None => read_word(s, end) == 0,
+        Some(fit) => (read_word(s, end) == 1)
+            & is_at(fit.gain, s, end + 4)
+            & is_at(fit.residual, s, end + 8),
     }
 }
 
 // w 1 for a candidate, else 0; f pole, low end, high end, gain, residual.
-fn is_kept(kept: Kept, s: &[u8], at: usize) -> bool
+fn is_kept(kept: Option<LagFit>, s: &[u8], at: usize) -> bool
     requires { at ≤ 20000 }
 {
     match kept {
-        Kept::Empty => read_word(s, at) == 0,
-        Kept::Best(b) => (read_word(s, at) == 1)
+        None => read_word(s, at) == 0,
+        Some(b) => (read_word(s, at) == 1)
             & is_at(b.pole, s, at + 4)
             & is_at(b.low, s, at + 8)
             & is_at(b.high, s, at + 12)
@@ -91,19 +86,19 @@ fn grid_agrees(s: &[u8]) -> bool {
     load(s, 8, n, &mut rates);
     load(s, 12, n, &mut moments);
     let dt_s = read_float(s, 4);
-    let carry = std::num::f32_to_f64_with_nan(lags::carry(dt_s));
-    let mut cs = [0.0f64; 2048];
-    let mut ts = [0.0f64; 2048];
-    let w = gain::prepare(&rates, carry, n, &mut cs, &mut ts);
-    let kept = grid::keep_poles(&moments, &cs, &ts, w, dt_s);
+    let carry = f64::from(lags::carry(dt_s));
+    let mut constants = [0.0f64; 2048];
+    let mut changes = [0.0f64; 2048];
+    let shared = gain::prepare(&rates, carry, n, &mut constants, &mut changes);
+    let input = FitInput {
+        moments: &moments,
+        constants: &constants,
+        changes: &changes,
+        shared,
+    };
+    let kept = grid::keep_poles(input, dt_s);
     let end = 8 + n * 8;
-    for step in 0..20usize {
-        let k = kept[step];
-        if !is_kept(k, s, end + step * 24) {
-            return false;
-        }
-    }
-    true
+    (0..20usize).all(|step| is_kept(kept[step], s, end + step * 24))
 }
 
 // w 1 for a model; w step; w d; f two rate weights, three moment weights, dt_s.
@@ -134,10 +129,9 @@ fn integrated_agrees(s: &[u8]) -> bool {
     if fit.gain_fits != read_word(s, end + 36) {
         return false;
     }
-    let fitted = fit.fitted;
-    match fitted {
-        Fitted::Nothing => read_word(s, end) == 0,
-        Fitted::Model(m) => is_model(m, s, end),
+    match fit.model {
+        None => read_word(s, end) == 0,
+        Some(m) => is_model(m, s, end),
     }
 }
 

@@ -1,13 +1,12 @@
--- What the kernel's functions are stated by: the running sums of lanes and places, how far a block of ticks brings them, and the fit of each place.
-use Rattle.std.specs.Prelude.{ℕ, zero, suc, ◌+◌, ◌-◌, ◌*◌, ◌/◌, ◌%◌, min, List, [], get_or, Float}
+-- What the kernel's functions are stated by: the running sums of a lane, how far a block of ticks brings them, and the fit of each step at a pole.
+use Rattle.std.specs.Prelude.{ℕ, zero, suc, ◌+◌, ◌-◌, ◌*◌, ◌/◌, min, List, [], get_or, replicate, Float, Option, None}
 use Rattle.std.specs.Float.{binary64}
 use Rattle.std.specs.Float.Ieee.{add, mul}
 use Rattle.float.specs.Values.{zero64}
-use Rattle.float.specs.Series.{at}
+use Rattle.float.specs.Series.{at, fill}
 use Rattle.gain.specs.declared.GainFit.{GainFit}
 use Rattle.gain.specs.declared.Shared.{Shared}
-use Rattle.gain.specs.Gain.{first_tick, solved}
-use Rattle.gain.specs.Prepared.{fit_with}
+use Rattle.gain.specs.Gain.{first_tick, step_count, is_half, solved}
 use Rattle.lanes.specs.Lanes.{lane_count, block_ticks, lane_series}
 use Rattle.kernel.specs.declared.LaneSums.{LaneSums}
 
@@ -15,10 +14,7 @@ use Rattle.kernel.specs.declared.LaneSums.{LaneSums}
 abbrev pub whole_ticks : ℕ
 whole_ticks = 10
 
-abbrev pub place_count : ℕ
-place_count = 60
-
--- a place's running values: the leaky sum m, and the three sums that it is in
+-- a lane's running values: the leaky sum m, and the three sums that it is in
 pub record Sums : Type 0 where
   pub m : Float
   pub mm : Float
@@ -77,21 +73,10 @@ tick_series poles u d h i = lane_series poles u h (first_tick - d + i)
 abbrev pub tick_sums : (poles cs ts : List Float) → Float → (ℕ → Float) → (d h n : ℕ) → Sums
 tick_sums poles cs ts carry u d h n = sums_on carry (tick_series poles u d h) (at cs) (at ts) no_sums n
 
--- the fit that the sums of place p solve to: lane p % 6 of whole tick p / 6 + 1
-abbrev pub solved_place : List LaneSums → Shared → ℕ → GainFit
-solved_place l w p = let s = lane (lanes_at l (p / lane_count)) (p % lane_count) in solved s.mm s.mc w.cc s.mt w.ct w.tt
+-- the fit that the sums of step s at pole q of three solve to: those of a lane of its whole ticks, s / 2 + 1
+abbrev pub solved_step : List LaneSums → Shared → ℕ → ℕ → Option GainFit
+solved_step l w q s = let x = lane (lanes_at l (s / 2)) (q * 2 + is_half s) in solved x.mm x.mc w.cc x.mt w.ct w.tt
 
--- step s of pole q of three has its place by its whole ticks, then by the pole, then whole or half
-abbrev pub place_of : ℕ → ℕ → ℕ
-place_of q s = s / 2 * lane_count + (q * 2 + s % 2)
-
--- the step and the pole of a place
-abbrev pub step_at : ℕ → ℕ
-step_at p = p / lane_count * 2 + p % 2
-
-abbrev pub pole_at : ℕ → ℕ
-pole_at p = p % lane_count / 2
-
--- the fit of a place from a window's moments u and the two leaky series with their sums, as an entry of a list
-abbrev pub place_fit : (poles cs ts : List Float) → Shared → (ℕ → Float) → ℕ → List GainFit → GainFit
-place_fit poles cs ts w u p l = fit_with w u (at cs) (at ts) (step_at p) (at poles (pole_at p))
+-- the fits of all steps at one pole, as a list
+abbrev pub step_fits : (ℕ → Float → Option GainFit) → Float → List (Option GainFit)
+step_fits fit pole = fill (λ s l. fit s pole) (replicate step_count None) step_count

@@ -2,12 +2,14 @@
 // no sum waits for the one before it, and all of them stay in registers.
 #![tactic(auto)]
 
-ghost use Rattle.std.specs.Prelude.{◌≡◌, ℕ, ◌+◌, ◌-◌, ◌*◌, ◌≤◌, ◌<◌, replicate};
+ghost use Rattle.std.specs.Prelude.{◌≡◌, ℕ, ◌+◌, ◌-◌, ◌*◌, ◌≤◌, ◌<◌, map, replicate, None};
 ghost use Rattle.float.specs.Series.{at, fill};
+ghost use Rattle.gain.specs.Gain.{step_count};
+ghost use Rattle.gain.specs.Prepared.{ticks_of, fit_of};
 ghost use Rattle.lanes.specs.Lanes.{lane_count};
-ghost use Rattle.kernel.specs.Kernel.{whole_ticks, place_count, lane, one_on, lanes_on, reached_of, block_on, lanes_at, tick_sums, solved_place, place_fit};
+ghost use Rattle.kernel.specs.Kernel.{whole_ticks, lane, one_on, lanes_on, reached_of, block_on, lanes_at, tick_sums, solved_step, step_fits};
 
-use gain::{GainFit, Shared};
+use gain::{FitInput, GainFit, Shared, StepSums};
 
 // The running values of the six lanes of a whole tick side by side: m, and the three sums that it is in.
 #[derive(Clone, Copy)]
@@ -27,6 +29,7 @@ fn add_tick(xs: &[f64; 768], place: usize, c: f64, t: f64, carry: f64, sums: Lan
     let mut mm = sums.mm;
     let mut mc = sums.mc;
     let mut mt = sums.mt;
+    // By index: a lane is one place of four arrays side by side, and zipped they are no plainer.
     for h in 0..6 {
         let next = carry * m[h] + xs[place + h];
         m[h] = next;
@@ -40,31 +43,36 @@ fn add_tick(xs: &[f64; 768], place: usize, c: f64, t: f64, carry: f64, sums: Lan
 // n ticks more of six lanes, whose regressors stand side by side in a block from tick first on, beside the two leaky series from place from on.
 fn sum_lanes(
     xs: &[f64; 768],
-    cs: &[f64; 2048],
-    ts: &[f64; 2048],
-    carry: f64,
+    input: FitInput<'_>,
     sums: LaneSums,
     first: usize,
     from: usize,
     n: usize,
 ) -> LaneSums
     requires { (first + n ≤ 128) × (from + n ≤ 2048) }
-    ensures { (h : ℕ) → h < lane_count → lane result h ≡ lanes_on carry xs.now cs.now ts.now first from h (lane sums h) n }
+    ensures { (h : ℕ) → h < lane_count → lane result h ≡ lanes_on input.entry.shared.carry xs.now input.entry.constants.now input.entry.changes.now first from h (lane sums h) n }
 {
+    let FitInput {
+        moments: _,
+        constants,
+        changes,
+        shared,
+    } = input;
     let mut on = sums;
+    // By index: six places of the block and one of each leaky series a tick. Zipped they are three ranges and a nested pattern, which is no plainer.
     for i in 0..n {
         let place = (first + i) * 6;
-        let next = add_tick(xs, place, cs[from + i], ts[from + i], carry, on);
+        let next = add_tick(
+            xs,
+            place,
+            constants[from + i],
+            changes[from + i],
+            shared.carry,
+            on,
+        );
         on = next;
     }
     on
-}
-
-// a less b, at least 0.
-fn less(a: usize, b: usize) -> usize
-    ensures { result ≡ a - b }
-{
-    if b < a { a - b } else { 0 }
 }
 
 // How many of n ticks the lanes of whole tick d + 1 have once the moments before a tick are in: their first regressor is that of tick 11 - d.
@@ -72,50 +80,33 @@ fn reached(n: usize, d: usize, tick: usize) -> usize
     requires { d ≤ 9 }
     ensures { result ≡ reached_of n d tick }
 {
-    lanes::at_most(less(tick, 11 - d), n)
+    tick.saturating_sub(11 - d).min(n)
 }
 
 // The lanes of whole tick d + 1 with a block in them, whose first tick is given.
 fn sum_block(
     xs: &[f64; 768],
-    cs: &[f64; 2048],
-    ts: &[f64; 2048],
-    carry: f64,
+    input: FitInput<'_>,
     sums: LaneSums,
-    n: usize,
     d: usize,
     tick: usize,
 ) -> LaneSums
-    requires { (n ≤ 2037) × (d ≤ 9) × (tick ≤ 1920) }
-    ensures { (h : ℕ) → h < lane_count → lane result h ≡ block_on carry xs.now cs.now ts.now n d tick h (lane sums h) }
+    requires { (d ≤ 9) × (tick ≤ 1920) }
+    ensures { (h : ℕ) → h < lane_count → lane result h ≡ block_on input.entry.shared.carry xs.now input.entry.constants.now input.entry.changes.now (ticks_of input.entry.shared) d tick h (lane sums h) }
 {
+    let n = input.shared.fitted();
     let from = reached(n, d, tick);
     let to = reached(n, d, tick + 128);
-    sum_lanes(
-        xs,
-        cs,
-        ts,
-        carry,
-        sums,
-        less(11 - d + from, tick),
-        from,
-        to - from,
-    )
+    let first = (11 - d + from).saturating_sub(tick);
+    sum_lanes(xs, input, sums, first, from, to - from)
 }
 
-// The sums of all steps over n ticks: six lanes for each of ten whole ticks, the shortest first. They go into an array before they are solved, so that the compiler packs
+// The sums of all steps: six lanes for each of ten whole ticks, the shortest first. They go into an array before they are solved, so that the compiler packs
 // two lanes in a register.
-fn sum_places(
-    moments: &[f32; 2048],
-    poles: [f32; 3],
-    cs: &[f64; 2048],
-    ts: &[f64; 2048],
-    carry: f64,
-    n: usize,
-) -> [LaneSums; 10]
-    requires { n ≤ 2037 }
-    ensures { (d h : ℕ) → d < whole_ticks → h < lane_count → lane (lanes_at result d) h ≡ tick_sums poles cs.now ts.now carry (at moments.now) d h n }
+fn sum_places(input: FitInput<'_>, poles: [f32; 3]) -> [LaneSums; 10]
+    ensures { (d h : ℕ) → d < whole_ticks → h < lane_count → lane (lanes_at result d) h ≡ tick_sums poles input.entry.constants.now input.entry.changes.now input.entry.shared.carry (at input.entry.moments.now) d h (ticks_of input.entry.shared) }
 {
+    let n = input.shared.fitted();
     let none = LaneSums {
         m: [0.0f64; 6],
         mm: [0.0f64; 6],
@@ -127,39 +118,41 @@ fn sum_places(
     let mut lagged = [0.0f32; 3];
     for b in 0..(n + 138) / 128 {
         let tick = b * 128;
-        let next = lanes::lag_block(moments, poles, lagged, b, n + 11 - tick, &mut xs);
-        for d in 0..10usize {
-            let start = sums[d];
-            sums[d] = sum_block(&xs, cs, ts, carry, start, n, d, tick);
+        let next = lanes::lag_block(input.moments, poles, lagged, b, n + 11 - tick, &mut xs);
+        for (d, sum) in sums.iter_mut().enumerate() {
+            *sum = sum_block(&xs, input, *sum, d, tick);
         }
         lagged = next;
     }
     sums
 }
 
-// The fits of all steps from their sums.
-fn solve_places(sums: [LaneSums; 10], w: Shared) -> [GainFit; 60]
-    ensures { result ≡ fill (λ p l. solved_place sums w p) (replicate place_count GainFit.Nothing) place_count }
+// The fits of pole q, 0 to 2, at all steps: each from the sums of a lane of its whole ticks.
+fn pole_fits(sums: &[LaneSums; 10], shared: Shared, q: usize) -> [Option<GainFit>; 20]
+    requires { q < 3 }
+    ensures { result ≡ fill (λ s l. solved_step sums.now shared q s) (replicate step_count None) step_count }
 {
-    let mut fits = [GainFit::Nothing; 60];
-    for d in 0..10usize {
-        let s = sums[d];
-        for h in 0..6usize {
-            fits[d * 6 + h] = gain::solve(s.mm[h], s.mc[h], w.cc, s.mt[h], w.ct, w.tt);
-        }
+    let mut fits = [None; 20];
+    for (s, fit) in fits.iter_mut().enumerate() {
+        let lanes = &sums[s / 2];
+        let h = q * 2 + s % 2;
+        *fit = shared.solve(StepSums {
+            mm: lanes.mm[h],
+            mc: lanes.mc[h],
+            mt: lanes.mt[h],
+        });
     }
     fits
 }
 
-// The fits of three poles at all steps, from a window's moments, its two leaky series and their sums.
-pub fn fit_steps(
-    moments: &[f32; 2048],
-    poles: [f32; 3],
-    cs: &[f64; 2048],
-    ts: &[f64; 2048],
-    w: Shared,
-) -> [GainFit; 60]
-    ensures { result ≡ fill (place_fit poles cs.now ts.now w (at moments.now)) (replicate place_count GainFit.Nothing) place_count }
+// The fits of three poles, each at all steps.
+pub fn fit_steps(input: FitInput<'_>, poles: [f32; 3]) -> [[Option<GainFit>; 20]; 3]
+    ensures { result ≡ map (step_fits (fit_of input.entry)) poles }
 {
-    solve_places(sum_places(moments, poles, cs, ts, w.carry, w.fitted()), w)
+    let sums = sum_places(input, poles);
+    [
+        pole_fits(&sums, input.shared, 0),
+        pole_fits(&sums, input.shared, 1),
+        pole_fits(&sums, input.shared, 2),
+    ]
 }

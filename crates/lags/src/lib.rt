@@ -144,18 +144,11 @@ fn lag(i: usize) -> f32
     LAGS_S[i]
 }
 
-// A place among the poles, at most the last.
-fn listed(i: usize) -> usize
-    ensures { result ≡ min i lag_count }
-{
-    if i < 128 { i } else { 128 }
-}
-
 // The poles of a grid at this tick: 0, then one for each lag. A place past the last of the 129 is read as the last.
 pub fn pole(dt_s: f32, i: usize) -> f32
     ensures { (result ≡ pole_of dt_s (min i lag_count)) × WhileAtMost lag_of most_lag lag_count }
 {
-    let place = listed(i);
+    let place = i.min(128);
     if place == 0 {
         return 0.0;
     }

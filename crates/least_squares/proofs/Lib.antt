@@ -1,2 +1,3 @@
 pub mod Diagonals
 pub mod Examples
+pub mod Six

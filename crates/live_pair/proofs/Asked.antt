@@ -17,8 +17,8 @@ use Rattle.delay.specs.Tie.{considered, residuals, lesser, least_to, within, fir
 use Rattle.rows.specs.Rows.{target, regressors, product, projection, each, sums_by, no_sums, sum_rows, window_sums}
 use Rattle.recorded.specs.Classify.{effect_of, entry_of, model_of, fit_at, fit_of, entries, solved_at, rows_dt, fit_recorded, class_of, classify, saturated, count_at_rail, at_rail}
 use Rattle.account.specs.declared.IdentifyConfig.{IdentifyConfig}
-use Rattle.account.specs.declared.Noisy.{Noisy}
-use Rattle.account.specs.declared.Noisy.TheVariants.{Absent, Present}
+use Rattle.account.specs.declared.IdentifyExtension.{IdentifyExtension}
+use Rattle.std.specs.Prelude.{Option, Some, None}
 use Rattle.account.specs.Rules.{positive, overrun, refusal}
 use Rattle.account.specs.Account.{Account, Entry, opened, entry, counted, is_integrated, judged, ended, accept, time, turned, continue, next}
 use Rattle.two_axis.specs.Axes.{Axis, first, second, TwoCall, two_call, call_of}
@@ -29,8 +29,8 @@ abbrev f : ℕ → Float
 f w = of_bits binary32 w
 
 -- amplitude 2, to 4 s
-unfoldable pub louder : Noisy
-louder = Present (record { amplitude = f 0x4000_0000; duration_s = f 0x4080_0000 })
+unfoldable pub louder : Option IdentifyExtension
+louder = Some (record { amplitude = f 0x4000_0000; duration_s = f 0x4080_0000 })
 
 -- amplitude 1, for 3 s, washout 0.5
 unfoldable pub config : IdentifyConfig
@@ -103,7 +103,7 @@ unfolding louder shaken read standing eleven last wishes entry counted is_integr
 second_alone_asks = (refl, refl)
 
 -- and both go on
-pub both_extended : (x : Axis) → ((next_two eleven last x).running ≡ true) × ((next_two eleven last x).end ≡ f 0x4080_0000) × ((next_two eleven last x).unused ≡ Absent)
+pub both_extended : (x : Axis) → ((next_two eleven last x).running ≡ true) × ((next_two eleven last x).end ≡ f 0x4080_0000) × ((next_two eleven last x).unused ≡ None)
 unfolding louder shaken read standing eleven last wishes entry counted is_integrated judged ended accept time turned continue next positive finite overrun refusal last_of run over many fill_down less reduced factor_entry factor above forward_entry forward backward_entry backward dot difference_of all_finite kept solve_if solve_with solve considered residuals lesser least_to within first_from under_bar shortest_tied delay_to_fit target regressors product projection each sums_by no_sums sum_rows window_sums effect_of entry_of model_of fit_at fit_of entries solved_at rows_dt fit_recorded class_of classify max_zero least isqrt near_root root_of rooted sum_to fill of_bits of_int add sub mul div neg lt le eq ne is_nan saturated count_at_rail at_rail magnitude
 both_extended first = (refl, refl, refl)
 both_extended second = (refl, refl, refl)

@@ -1,7 +1,7 @@
 -- What is flown stands as the definitions' two probes do after the same calls, since what is written is read back. So it holds the accounts.
 use Prim.Native.Nat.{ℕ, zero, suc, ◌≤◌}
 use mathlib.Core.Path.{◌≡◌, refl, sym, ap, ap₂, subst, subst₂, fun_ext, ◌∙◌}
-use mathlib.Core.Option.{Option, none, some}
+use Rattle.std.specs.Prelude.{Option, Some, None}
 use mathlib.Core.List.{List, [], ◌∷◌, ◌++◌}
 use native.Mathlib.Omega.{arith}
 use lib.Ieee.{Float}
@@ -56,9 +56,9 @@ module _ (p : Structs) (l : Lents) (y : TwoCall) (found : Float) (x : Axis) wher
   replies_by : (n : ℕ) (t u : Option Float) → let r = (two_answer_by n t u p l y).result in reply_by (number (reply_two r first)) (offset_after_two r x found) ≡ reply_two r x
   unfolding two_answer_by two_ticked reply_by number reply_two offset_after_two
   replies_by (suc n) t u = refl
-  replies_by zero none u = refl
-  replies_by zero (some e) none = refl
-  replies_by zero (some e) (some d) = refl
+  replies_by zero None u = refl
+  replies_by zero (Some e) None = refl
+  replies_by zero (Some e) (Some d) = refl
 
   replied : let r = (two_stepped_by p l y).result in reply_by (number (reply_two r first)) (offset_after_two r x found) ≡ reply_two r x
   unfolding two_stepped_by

@@ -1,8 +1,10 @@
 -- What `ready` leaves of the bytes of marks, by the tests of both axes.
 use Prim.Native.Nat.{ℕ, zero, suc}
 use mathlib.Core.Path.{◌≡◌, refl}
-use mathlib.Core.Bool.{true, false}
-use mathlib.Core.Option.{Option, none, some}
+use mathlib.Core.Bool.{true, false, ◌&&◌}
+use Rattle.std.specs.Prelude.{Option, Some, None, is_some}
+use lib.Dec.{eqb}
+use lib.Dec.{eqb-suc-zero}
 use mathlib.Core.List.{List}
 use lib.Ieee.{Float}
 use Rattle.probe_words.specs.Layout.{Scalars, probe_in}
@@ -11,19 +13,13 @@ use Rattle.marks.specs.Marks.{KeepsMarks}
 use Rattle.two_axis.specs.Axes.{Axis, first, second}
 use Rattle.live_pair.specs.Pair.{accepted_by, accepted, pair_readied}
 
-pub turned : (n : ℕ) (time : Option Float) → (n ≡ 0 → ⊥) → false ≡ accepted_by n time
+-- the two tests of the code
+pub accepts_by : (n : ℕ) (time : Option Float) → (is_some time && eqb n 0) ≡ accepted_by n time
 unfolding accepted_by
-turned zero time h = absurd (h refl)
-turned (suc n) time h = refl
-
-pub stopped : (n : ℕ) (time : Option Float) → time ≡ none → false ≡ accepted_by n time
-unfolding accepted_by
-stopped zero time h = rw h
-stopped (suc n) time h = refl
-
-pub runs : (n : ℕ) (time : Option Float) (e : Float) → n ≡ 0 → time ≡ some e → true ≡ accepted_by n time
-unfolding accepted_by
-runs n time e z h = rw (z, h)
+accepts_by zero None = refl
+accepts_by zero (Some e) = refl
+accepts_by (suc n) None = refl
+accepts_by (suc n) (Some e) = eqb-suc-zero n
 
 module _ (s : Axis → Scalars) (dt : Float) where
   pub by_both : accepted (probe_in (s first)) dt ≡ true → accepted (probe_in (s second)) dt ≡ true → (x : Axis) (bytes : List ℕ) → readied (probe_in (s x)) dt bytes ≡ pair_readied s x dt bytes

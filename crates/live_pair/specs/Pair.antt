@@ -2,7 +2,7 @@
 use Rattle.std.specs.Prelude.{ℕ, zero, suc, ◌≡◌, Bool, true, false, ◌&&◌, cond, List, Float}
 use Rattle.std.specs.Borrow.{Bor, MutBor}
 use denote.Triple.Both.{Both}
-use Rattle.std.proofs.Math.Option.{Option, none, some}
+use Rattle.std.specs.Prelude.{Option, Some, None}
 use Rattle.float.specs.Values.{zero32}
 use Rattle.window.specs.Lent.{Borrowed}
 use Rattle.account.specs.declared.IdentifyConfig.{IdentifyConfig}
@@ -115,8 +115,8 @@ PairStepped k c offset n = pair_flight n offset.exit k.exit ≡ pair_step k.entr
 -- whether an axis runs and no rule turns its call back, by the number and the elapsed time
 unfoldable pub accepted_by : ℕ → Option Float → Bool
 accepted_by (suc n) time = false
-accepted_by zero none = false
-accepted_by zero (some elapsed) = true
+accepted_by zero None = false
+accepted_by zero (Some elapsed) = true
 
 abbrev pub accepted : IdentifyProbe → Float → Bool
 accepted p dt = let time = clock p.status in accepted_by (refusal time p.ticks dt) time

@@ -15,7 +15,6 @@ ghost use Rattle.live_pair.specs.Flown.{OpensPair, PairFliesOn, WritesPairReport
 
 use account::IdentifyConfig;
 use identify::IdentifyProbe;
-use rules::Clock;
 use two_axis_probe::{TwoAxisProbe, TwoStepped};
 
 // ---- open
@@ -52,10 +51,8 @@ pub fn open(
         return number;
     }
     let fresh = TwoAxisProbe::fresh(config);
-    let probe1 = fresh.first;
-    let probe2 = fresh.second;
-    probe_writing::write_probe(words1, floats1, probe1);
-    probe_writing::write_probe(words2, floats2, probe2);
+    probe_writing::write_probe(words1, floats1, fresh.first);
+    probe_writing::write_probe(words2, floats2, fresh.second);
     0
 }
 
@@ -78,10 +75,8 @@ fn keep(
 {
     match stepped {
         TwoStepped::Offsets(x, y, next) => {
-            let probe1 = next.first;
-            let probe2 = next.second;
-            probe_writing::write_probe(words1, floats1, probe1);
-            probe_writing::write_probe(words2, floats2, probe2);
+            probe_writing::write_probe(words1, floats1, next.first);
+            probe_writing::write_probe(words2, floats2, next.second);
             *offset1 = x;
             *offset2 = y;
             0
@@ -138,16 +133,8 @@ pub fn step(
 fn accepts(probe: IdentifyProbe, dt: f32) -> bool
     ensures { result ≡ accepted probe dt }
 {
-    let status = probe.status;
-    let clock = rules::clock_of(status);
-    let number = rules::refuses(clock, probe.ticks, dt);
-    if number != 0 {
-        return false;
-    }
-    match clock {
-        Clock::At(_) => true,
-        Clock::Stopped => false,
-    }
+    let clock = probe.status.clock();
+    clock.is_some() & (rules::refuses(clock, probe.ticks, dt) == 0)
 }
 
 // Before a call that reads an axis's marks each byte of them is made 0 or 1, and before any other, one that is turned back among them, nothing is written. The marks that they stand for stay.

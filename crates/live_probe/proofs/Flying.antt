@@ -2,7 +2,7 @@
 -- So it holds the account, and a byte run of the same calls writes its report and its answers.
 use Prim.Native.Nat.{ℕ, zero, suc, ◌≤◌}
 use mathlib.Core.Path.{◌≡◌, refl, sym, ap, ◌∙◌}
-use mathlib.Core.Option.{Option, none, some}
+use Rattle.std.specs.Prelude.{Option, Some, None}
 use mathlib.Core.List.{List, [], ◌∷◌, ◌++◌}
 use native.Mathlib.Omega.{arith}
 use lib.Ieee.{Float}
@@ -53,8 +53,8 @@ module _ (p : IdentifyProbe) (l : Lent) (y : Call) (found : Float) where
   replies_by : (n : ℕ) (t : Option Float) → let r = (answer_by n t p l y).result in reply_by (number (reply_of r)) (offset_after r found) ≡ reply_of r
   unfolding answer_by ticked reply_by number reply_of offset_after
   replies_by (suc n) t = refl
-  replies_by zero none = refl
-  replies_by zero (some e) = refl
+  replies_by zero None = refl
+  replies_by zero (Some e) = refl
 
   replied : let r = (stepped_by p l y).result in reply_by (number (reply_of r)) (offset_after r found) ≡ reply_of r
   unfolding stepped_by

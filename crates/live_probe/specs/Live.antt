@@ -1,6 +1,6 @@
 -- A probe that its caller keeps and steps: what each call answers, and what it leaves of all that it was lent.
 use Rattle.std.specs.Prelude.{ℕ, zero, suc, Bool, false, not, cond, List, Float}
-use Rattle.std.proofs.Math.Option.{Option, none, some}
+use Rattle.std.specs.Prelude.{Option, Some, None}
 use Rattle.std.specs.Float.{binary32}
 use Rattle.std.specs.Float.Ieee.{add, lt}
 use Rattle.float.specs.Values.{zero32}
@@ -91,8 +91,8 @@ live_step k c found =
 -- whether a call reads the marks, by the number that turns it back and the elapsed time of a probe that runs: it is not "Elapsed below duration_s: go on"
 unfoldable pub reads_marks : ℕ → Option Float → (end dt : Float) → Bool
 reads_marks (suc n) time end dt = false
-reads_marks zero none end dt = false
-reads_marks zero (some elapsed) end dt = not (lt (add binary32 elapsed dt) end)
+reads_marks zero None end dt = false
+reads_marks zero (Some elapsed) end dt = not (lt (add binary32 elapsed dt) end)
 
 abbrev pub reads_in : IdentifyProbe → Float → Bool
 reads_in p dt = let time = clock p.status in reads_marks (refusal time p.ticks dt) time p.duration_s dt

@@ -5,7 +5,6 @@ ghost use Rattle.std.specs.Prelude.{◌≡◌};
 ghost use Rattle.marks.specs.Marks.{KeepsMarks};
 ghost use Rattle.account.specs.Rules.{refusal};
 ghost use Rattle.account.specs.Probe.{number};
-ghost use Rattle.rules.specs.Clock.{time_of};
 ghost use Rattle.identify.specs.Seen.{call, reply_of};
 ghost use Rattle.probe_words.specs.Layout.{scalars, found_in, left_in, probe_in};
 ghost use Rattle.live_probe.specs.Live.{live_found, live_left, config_by, opening, live_open, flight, scalars_after, offset_after, live_step, reads_marks, readied};
@@ -13,7 +12,6 @@ ghost use Rattle.live_probe.specs.Flown.{OpensFlight, FliesOn, WritesReport, Rep
 
 use account::IdentifyConfig;
 use identify::{IdentifyProbe, Opened, Stepped};
-use rules::Clock;
 
 // ---- open
 
@@ -96,10 +94,10 @@ pub fn step(
 // ---- marks
 
 // Whether a call reads the marks: the probe runs, the call does not end before the end time, and no rule turns it back. The test that most calls fail comes first.
-fn reads_marks(clock: Clock, ticks: u32, end_s: f32, dt: f32) -> bool
-    ensures { result ≡ reads_marks (refusal (time_of clock) ticks dt) (time_of clock) end_s dt }
+fn reads_marks(clock: Option<f32>, ticks: u32, end_s: f32, dt: f32) -> bool
+    ensures { result ≡ reads_marks (refusal clock ticks dt) clock end_s dt }
 {
-    let Clock::At(elapsed_s) = clock else {
+    let Some(elapsed_s) = clock else {
         return false;
     };
     if elapsed_s + dt < end_s {
@@ -118,7 +116,7 @@ pub fn ready(words: &[u32; 8], floats: &[f32; 14], marks: &mut [u8; 2048], dt: f
     ensures marks { KeepsMarks marks.old marks.new }
 {
     let status = probe_words::status_by(words[0], words[1], floats);
-    let clock = rules::clock_of(status);
+    let clock = status.clock();
     if reads_marks(clock, words[2], floats[0], dt) {
         marks::settle(marks);
     }

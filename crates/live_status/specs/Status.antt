@@ -2,8 +2,7 @@
 use Rattle.std.specs.Prelude.{ℕ, List, [], ◌∷◌, Float}
 use Rattle.float.specs.Values.{zero32}
 use Rattle.delay.specs.HalfTicks.{whole_ticks, half_tick}
-use Rattle.units.specs.declared.PlainUnits.{PlainUnits}
-use Rattle.units.specs.declared.PlainUnits.TheVariants.{Nothing, Both}
+use Rattle.std.specs.Prelude.{Option, Some, None}
 use Rattle.units.specs.declared.Plain.{Plain}
 use Rattle.account.specs.declared.IdentifyStatus.{IdentifyStatus}
 use Rattle.account.specs.Probe.{delay_of}
@@ -15,13 +14,13 @@ use Rattle.probe_words.specs.Layout.{word, status_by}
 abbrev pub status_in : List ℕ → List Float → IdentifyStatus
 status_in words floats = status_by (word words 0) (word words 1) floats
 
-unfoldable pub has_units : PlainUnits → ℕ
-has_units Nothing = 0
-has_units (Both p) = 1
+unfoldable pub has_units : Option Plain → ℕ
+has_units None = 0
+has_units (Some p) = 1
 
-unfoldable pub units_or_zeros : PlainUnits → Plain
-units_or_zeros Nothing = record { lag_s = zero32; accel_radps2 = zero32 }
-units_or_zeros (Both p) = p
+unfoldable pub units_or_zeros : Option Plain → Plain
+units_or_zeros None = record { lag_s = zero32; accel_radps2 = zero32 }
+units_or_zeros (Some p) = p
 
 -- kind; the delay in half ticks, its whole ticks and its half tick; whether it has plain units
 unfoldable pub status_numbers : IdentifyStatus → List ℕ

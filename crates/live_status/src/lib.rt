@@ -7,39 +7,34 @@ ghost use Rattle.byte_units.specs.ByteUnits.{status_units};
 ghost use Rattle.live_status.specs.Status.{status_in, has_units, units_or_zeros, status_numbers, status_plain};
 
 use account::IdentifyStatus;
-use units::{Plain, PlainUnits};
+use units::Plain;
 
 // Lag and acceleration of a status; neither unless it is done.
-fn units_of(status: IdentifyStatus) -> PlainUnits
+#[tactic(auto, unfolding(byte_units::specs::ByteUnits::status_units))]
+fn units_of(status: IdentifyStatus) -> Option<Plain>
     ensures { result ≡ status_units status }
 {
     match status {
-        IdentifyStatus::Running(_) => PlainUnits::Nothing,
         IdentifyStatus::Done(model) => units::plain_units(model),
-        IdentifyStatus::Unexcited => PlainUnits::Nothing,
-        IdentifyStatus::Saturated => PlainUnits::Nothing,
+        _ => None,
     }
 }
 
-fn has_units(units: PlainUnits) -> u32
+#[tactic(auto, unfolding(crate::specs::Status::has_units))]
+fn has_units(units: Option<Plain>) -> u32
     ensures { result ≡ has_units units }
 {
-    match units {
-        PlainUnits::Nothing => 0,
-        PlainUnits::Both(_) => 1,
-    }
+    u32::from(units.is_some())
 }
 
-fn units_or_zeros(units: PlainUnits) -> Plain
+#[tactic(auto, unfolding(crate::specs::Status::units_or_zeros))]
+fn units_or_zeros(units: Option<Plain>) -> Plain
     ensures { result ≡ units_or_zeros units }
 {
-    match units {
-        PlainUnits::Nothing => Plain {
-            lag_s: 0.0,
-            accel_radps2: 0.0,
-        },
-        PlainUnits::Both(plain) => plain,
-    }
+    units.unwrap_or(Plain {
+        lag_s: 0.0,
+        accel_radps2: 0.0,
+    })
 }
 
 // Where the probe stands: its kind, its delay in half ticks, the delay's whole ticks and its half tick, whether it has plain units; the six floats of its status; lag and acceleration.

@@ -1,6 +1,6 @@
 -- What a probe says of itself, and what its account asks for: 01, "The report".
 use Rattle.std.specs.Prelude.{ℕ, cond, length, Float}
-use Rattle.std.proofs.Math.Option.{Option, none, some}
+use Rattle.std.specs.Prelude.{Option, Some, None}
 use Rattle.window.specs.Walk.{many, is_held, is_warm, is_row}
 use Rattle.window.specs.Runs.{held_of, warm_of, rows_of}
 use Rattle.account.specs.Probe.{Probe, clock, stands}
@@ -9,8 +9,8 @@ use Rattle.report.specs.declared.Report.{Report}
 
 -- 0 for what still runs: "Warm, rows and fits are 0 until the end"
 abbrev pub once_ended : Option Float → ℕ → ℕ
-once_ended (some e) n = 0
-once_ended none n = n
+once_ended (Some e) n = 0
+once_ended None n = n
 
 -- the report of a probe, counted by a walk over its window
 unfoldable pub of_probe : Probe → Report

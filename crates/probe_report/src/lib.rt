@@ -15,11 +15,9 @@ use report::Report;
 fn once_ended(status: IdentifyStatus, n: usize) -> usize
     ensures { result ≡ once_ended (clock status) n }
 {
-    match status {
-        IdentifyStatus::Running(_) => 0,
-        IdentifyStatus::Done(_) => n,
-        IdentifyStatus::Unexcited => n,
-        IdentifyStatus::Saturated => n,
+    match status.clock() {
+        Some(_) => 0,
+        None => n,
     }
 }
 
@@ -27,18 +25,14 @@ fn once_ended(status: IdentifyStatus, n: usize) -> usize
 pub fn report_of(probe: IdentifyProbe, rates: &[f32; 2048], held: &[bool; 2048]) -> Report
     ensures { (moments offsets : List Float) → result ≡ of_probe (seen probe (lent rates.now moments offsets held.now)) }
 {
-    window::whole_values(*rates);
-    window::whole_marks(*held);
-    let window = probe.window;
-    let counts = counting::count_ticks(window, held);
-    let status = probe.status;
+    let counts = counting::count_ticks(probe.window, held);
     Report {
         ticks: probe.ticks,
-        stored: window.stored(),
+        stored: probe.window.stored(),
         held: counts.held,
-        warm: once_ended(status, counts.warm),
-        rows: once_ended(status, counts.rows),
-        status,
+        warm: once_ended(probe.status, counts.warm),
+        rows: once_ended(probe.status, counts.rows),
+        status: probe.status,
         gain_fits: probe.gain_fits,
     }
 }

@@ -9,8 +9,8 @@ use lib.Ieee.{Float}
 use Rattle.float.specs.Series.{at}
 use Rattle.window.specs.Samples.{capacity}
 use Rattle.window.specs.Arrays.{stored_of}
-use Rattle.account.specs.declared.Noisy.{Noisy}
-use Rattle.account.specs.declared.Noisy.TheVariants.{Absent, Present}
+use Rattle.account.specs.declared.IdentifyExtension.{IdentifyExtension}
+use Rattle.std.specs.Prelude.{Option, Some, None}
 use Rattle.account.specs.declared.IdentifyStatus.{IdentifyStatus}
 use Rattle.account.specs.declared.IdentifyStatus.TheVariants.{Running, Done, Unexcited, Saturated}
 use Rattle.account.specs.Probe.{delay_of}
@@ -22,10 +22,10 @@ flag_back : (b : Bool) → not (eqb (flag_of b) 0) ≡ b
 flag_back true = refl
 flag_back false = refl
 
-noisy_back : (n : Noisy) → noisy_by (extension_flag n) (extension_or_zeros n).amplitude (extension_or_zeros n).duration_s ≡ n
+noisy_back : (n : Option IdentifyExtension) → noisy_by (extension_flag n) (extension_or_zeros n).amplitude (extension_or_zeros n).duration_s ≡ n
 unfolding noisy_by extension_flag extension_or_zeros
-noisy_back Absent = refl
-noisy_back (Present x) = refl
+noisy_back None = refl
+noisy_back (Some x) = refl
 
 status_back : (s : IdentifyStatus) (a b c d e f g h : Float) → status_by (kind_of s) (delay_of s).half_ticks (a ∷ b ∷ c ∷ d ∷ e ∷ f ∷ g ∷ h ∷ floats_of s) ≡ s
 unfolding status_by kind_of delay_of floats_of

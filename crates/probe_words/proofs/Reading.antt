@@ -3,11 +3,11 @@ use Prim.Native.Nat.{ℕ, zero, suc}
 use mathlib.Core.Path.{◌≡◌, refl}
 use mathlib.Core.List.{List}
 use lib.Ieee.{Float}
-use Rattle.account.specs.declared.Noisy.TheVariants.{Present}
+use Rattle.std.specs.Prelude.{Option, Some, None}
 use Rattle.account.specs.declared.IdentifyStatus.TheVariants.{Saturated}
 use Rattle.probe_words.specs.Layout.{noisy_by, status_by}
 
-pub present : (flag : ℕ) (amplitude duration : Float) → (flag ≡ 0 → ⊥) → Present (record { amplitude = amplitude; duration_s = duration }) ≡ noisy_by flag amplitude duration
+pub present : (flag : ℕ) (amplitude duration : Float) → (flag ≡ 0 → ⊥) → Some (record { amplitude = amplitude; duration_s = duration }) ≡ noisy_by flag amplitude duration
 unfolding noisy_by
 present zero amplitude duration n = absurd (n refl)
 present (suc flag) amplitude duration n = refl

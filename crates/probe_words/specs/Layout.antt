@@ -10,8 +10,7 @@ use Rattle.window.specs.Arrays.{stored_of}
 use Rattle.window.specs.Lent.{Borrowed}
 use Rattle.delay.specs.declared.RateModel.{RateModel}
 use Rattle.account.specs.declared.IdentifyExtension.{IdentifyExtension}
-use Rattle.account.specs.declared.Noisy.{Noisy}
-use Rattle.account.specs.declared.Noisy.TheVariants.{Absent, Present}
+use Rattle.std.specs.Prelude.{Option, Some, None}
 use Rattle.account.specs.declared.IdentifyStatus.{IdentifyStatus}
 use Rattle.account.specs.declared.IdentifyStatus.TheVariants.{Running, Done, Unexcited, Saturated}
 use Rattle.account.specs.Probe.{delay_of}
@@ -40,9 +39,9 @@ abbrev pub word : List ℕ → ℕ → ℕ
 word l i = get_or l i 0
 
 -- a flag of 0 is no extension
-unfoldable pub noisy_by : ℕ → (amplitude duration : Float) → Noisy
-noisy_by zero amplitude duration = Absent
-noisy_by (suc flag) amplitude duration = Present (record { amplitude = amplitude; duration_s = duration })
+unfoldable pub noisy_by : ℕ → (amplitude duration : Float) → Option IdentifyExtension
+noisy_by zero amplitude duration = None
+noisy_by (suc flag) amplitude duration = Some (record { amplitude = amplitude; duration_s = duration })
 
 abbrev pub model_by : ℕ → List Float → RateModel
 model_by halves l = record {
@@ -93,13 +92,13 @@ flag_of true = 1
 flag_of false = 0
 
 -- no extension is written as zeros
-unfoldable pub extension_flag : Noisy → ℕ
-extension_flag Absent = 0
-extension_flag (Present x) = 1
+unfoldable pub extension_flag : Option IdentifyExtension → ℕ
+extension_flag None = 0
+extension_flag (Some x) = 1
 
-unfoldable pub extension_or_zeros : Noisy → IdentifyExtension
-extension_or_zeros Absent = record { amplitude = zero32; duration_s = zero32 }
-extension_or_zeros (Present x) = x
+unfoldable pub extension_or_zeros : Option IdentifyExtension → IdentifyExtension
+extension_or_zeros None = record { amplitude = zero32; duration_s = zero32 }
+extension_or_zeros (Some x) = x
 
 unfoldable pub words_of : IdentifyProbe → List ℕ
 words_of p =

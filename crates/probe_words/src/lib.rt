@@ -5,20 +5,20 @@ ghost use Rattle.std.specs.Prelude.{◌≡◌, ◌≤◌, min};
 ghost use Rattle.window.specs.Samples.{capacity};
 ghost use Rattle.probe_words.specs.Layout.{scalars, noisy_by, model_by, status_by, sweep_by, window_by, probe_in};
 
-use account::{IdentifyExtension, IdentifyStatus, Noisy};
+use account::{IdentifyExtension, IdentifyStatus};
 use delay::{Delay, RateModel};
 use identify::IdentifyProbe;
 use sweep::SquareSweep;
 use window::Window;
 
 // An extension by its flag: 0 is none.
-pub fn noisy_by(flag: u32, amplitude: f32, duration_s: f32) -> Noisy
+pub fn noisy_by(flag: u32, amplitude: f32, duration_s: f32) -> Option<IdentifyExtension>
     ensures { result ≡ noisy_by flag amplitude duration_s }
 {
     if flag == 0 {
-        return Noisy::Absent;
+        return None;
     }
-    Noisy::Present(IdentifyExtension {
+    Some(IdentifyExtension {
         amplitude,
         duration_s,
     })
@@ -72,10 +72,7 @@ fn sweep_by(words: &[u32; 8], floats: &[f32; 14]) -> SquareSweep
 fn within_room(stored: u32) -> usize
     ensures { result ≡ min stored capacity }
 {
-    if stored < 2048 {
-        return stored as usize;
-    }
-    2048
+    stored.min(2048) as usize
 }
 
 fn window_by(stored: u32, duration_s: f32) -> Window

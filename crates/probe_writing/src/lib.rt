@@ -6,36 +6,33 @@ ghost use Rattle.window.specs.Samples.{capacity};
 ghost use Rattle.window.specs.Arrays.{stored_of};
 ghost use Rattle.probe_words.specs.Layout.{left_in, probe_in, flag_of, extension_flag, extension_or_zeros, words_of, floats_in, scalars_of};
 
-use account::{IdentifyExtension, Noisy};
+use account::IdentifyExtension;
 use identify::IdentifyProbe;
 use window::Window;
 
+#[tactic(auto, unfolding(probe_words::specs::Layout::flag_of))]
 fn flag(on: bool) -> u32
     ensures { result ≡ flag_of on }
 {
-    if on { 1 } else { 0 }
+    u32::from(on)
 }
 
-fn extension_flag(noisy: Noisy) -> u32
+#[tactic(auto, unfolding(probe_words::specs::Layout::extension_flag))]
+fn extension_flag(noisy: Option<IdentifyExtension>) -> u32
     ensures { result ≡ extension_flag noisy }
 {
-    match noisy {
-        Noisy::Absent => 0,
-        Noisy::Present(_) => 1,
-    }
+    u32::from(noisy.is_some())
 }
 
 // No extension is written as zeros.
-fn extension_or_zeros(noisy: Noisy) -> IdentifyExtension
+#[tactic(auto, unfolding(probe_words::specs::Layout::extension_or_zeros))]
+fn extension_or_zeros(noisy: Option<IdentifyExtension>) -> IdentifyExtension
     ensures { result ≡ extension_or_zeros noisy }
 {
-    match noisy {
-        Noisy::Absent => IdentifyExtension {
-            amplitude: 0.0,
-            duration_s: 0.0,
-        },
-        Noisy::Present(x) => x,
-    }
+    noisy.unwrap_or(IdentifyExtension {
+        amplitude: 0.0,
+        duration_s: 0.0,
+    })
 }
 
 fn stored_word(window: Window) -> u32
@@ -47,41 +44,32 @@ fn stored_word(window: Window) -> u32
 fn words_of(probe: IdentifyProbe) -> [u32; 8]
     ensures { result ≡ words_of probe }
 {
-    let status = probe.status;
-    let noisy = probe.noisy;
-    let sweep = probe.sweep;
-    let window = probe.window;
-    let delay = report::kept_delay(status);
     [
-        report::kind(status),
-        delay.half_ticks,
+        report::kind(probe.status),
+        report::kept_delay(probe.status).half_ticks,
         probe.ticks,
-        stored_word(window),
+        stored_word(probe.window),
         probe.gain_fits,
-        extension_flag(noisy),
-        sweep.edge,
-        flag(sweep.high),
+        extension_flag(probe.noisy),
+        probe.sweep.edge,
+        flag(probe.sweep.high),
     ]
 }
 
 fn floats_of(probe: IdentifyProbe) -> [f32; 14]
     ensures { result ≡ floats_in probe }
 {
-    let noisy = probe.noisy;
-    let sweep = probe.sweep;
-    let window = probe.window;
-    let extension = extension_or_zeros(noisy);
-    let status = probe.status;
-    let model = report::floats(status);
+    let extension = extension_or_zeros(probe.noisy);
+    let model = report::floats(probe.status);
     [
         probe.duration_s,
         extension.amplitude,
         extension.duration_s,
-        sweep.amplitude,
-        sweep.washout_tc_s,
-        sweep.next_edge_s,
-        sweep.washout,
-        window.duration_s,
+        probe.sweep.amplitude,
+        probe.sweep.washout_tc_s,
+        probe.sweep.next_edge_s,
+        probe.sweep.washout,
+        probe.window.duration_s,
         model[0],
         model[1],
         model[2],

@@ -1,25 +1,26 @@
 // The recorded fit: least squares of the rate's change on the last rates and the recorded moments, a fit for each whole delay.
 #![tactic(auto)]
 
-ghost use Rattle.std.specs.Prelude.{◌≡◌, ◌≤◌, length, get_or, take};
+ghost use Rattle.std.specs.Prelude.{◌≡◌, ◌≤◌, ◌<◌, None, count_by, length, get_or, take};
 ghost use Rattle.std.specs.Float.{binary32};
 ghost use Rattle.float.specs.Values.{whole32};
 ghost use Rattle.float.specs.Series.{sum_to};
 ghost use Rattle.delay.specs.Tie.{entry_count};
 ghost use Rattle.window.specs.Samples.{capacity};
-ghost use Rattle.least_squares.specs.declared.Solved.TheVariants.{NoFit};
-ghost use Rattle.recorded.specs.Classify.{at_least_one, entry_of, entries as entries_of, model_of, fit_at, fit_recorded, at_rail, count_at_rail, saturated as saturated_by, classify as class_of_window};
+ghost use Rattle.window.specs.Arrays.{stored_of};
+ghost use Rattle.recorded.specs.Classify.{at_least_one, entry_of, entries as entries_of, model_of, fit_at, fit_recorded, at_rail, saturated as saturated_by, classify as class_of_window};
 ghost use Rattle.recorded.specs.Stages.{Stored, solved_from, solved_list};
 
-use delay::{Delay, Entry, Position, RateModel};
-use least_squares::{Solution, Solved};
+use delay::{Delay, Entry, RateModel};
+use least_squares::Solution;
 use shared_sums::SharedSums;
+use window::{Readings, Window};
 
 // The recorded fit of a window: its model, and what it leaves unexplained, as an RMS a tick in rad/s.
 #[derive(Clone, Copy)]
-pub enum RecordedFit {
-    NoFit,
-    Fit(RateModel, f32),
+pub struct RecordedFit {
+    pub model: RateModel,
+    pub rms: f32,
 }
 
 // The fit that a window takes, or why it takes none.
@@ -42,14 +43,14 @@ const SATURATED_SHARE: f32 = 0.2;
 
 // ---- what is stored
 
-// How many samples of a window are stored: `len`, and never more than the arrays hold.
-fn stored(rates: &[f32; 2048], moments: &[f32; 2048], held: &[bool; 2048], len: usize) -> usize
-    ensures { Stored rates.now moments.now held.now len result }
+// How many samples of a window are stored: never more than the arrays hold.
+// Array by array: a proof knows an array's length behind a reference that is a parameter, and not behind a field.
+#[tactic(auto, unfolding(window::specs::Arrays::stored_of))]
+fn stored(window: Window, rates: &[f32; 2048], moments: &[f32; 2048], held: &[bool; 2048]) -> usize
+    ensures count { result ≡ stored_of window }
+    ensures room { Stored rates.now moments.now held.now result }
 {
-    window::whole_values(*rates);
-    window::whole_values(*moments);
-    window::whole_marks(*held);
-    rows::length_within(len)
+    window.stored()
 }
 
 // A whole number as f32, which holds those of a window exactly.
@@ -65,10 +66,7 @@ fn at_least_one(n: usize) -> f32
     requires { n ≤ capacity }
     ensures { result ≡ at_least_one n }
 {
-    if n < 1 {
-        return whole(1);
-    }
-    whole(n)
+    whole(n.max(1))
 }
 
 // The sum of the rows' dt_s, each of them `dt_s`.
@@ -77,42 +75,43 @@ fn sum_rows_dt(rows: usize, dt_s: f32) -> f32
 {
     let mut sum = 0.0f32;
     for _ in 0..rows {
-        sum = sum + dt_s;
+        sum += dt_s;
     }
     sum
 }
 
 // ---- the fits of all delays
 
-fn solve_delays(shared: SharedSums) -> [Solved; 10]
-    ensures { result ≡ solved_list (solved_from shared) }
+// The fit of delay k + 1.
+fn solve_delay(shared: SharedSums, k: usize) -> Option<Solution>
+    requires { k < 10 }
+    ensures { result ≡ solved_from shared k }
 {
-    let mut fits = [Solved::NoFit; 10];
-    for k in 0..10 {
-        fits[k] = delay_sums::delay_sums(shared, k + 1).solve();
-    }
-    fits
+    delay_sums::delay_sums(shared, k + 1).solve()
 }
 
-fn entry(solved: Solved) -> Entry
+fn solve_delays(shared: SharedSums) -> [Option<Solution>; 10]
+    ensures { result ≡ solved_list (solved_from shared) }
+{
+    std::array::from_fn(|k| solve_delay(shared, k))
+}
+
+#[tactic(auto, unfolding(crate::specs::Classify::entry_of, crate::specs::Classify::effect_of))]
+fn entry(solved: Option<Solution>) -> Option<Entry>
     ensures { result ≡ entry_of solved }
 {
-    match solved {
-        Solved::NoFit => Entry::Missing,
-        Solved::Fit(s) => Entry::Fit(s.c2 + s.c3 + s.c4, s.residual),
-    }
+    let Solution { c, residual } = solved?;
+    Some(Entry {
+        effect: c[2] + c[3] + c[4],
+        residual,
+    })
 }
 
 // The entries of the tie rule, of which the last ten are missing.
-fn entries(fits: [Solved; 10]) -> [Entry; 20]
-    ensures { result ≡ entries_of (λ k. get_or fits k NoFit) }
+fn entries(fits: [Option<Solution>; 10]) -> [Option<Entry>; 20]
+    ensures { result ≡ entries_of (λ k. get_or fits k None) }
 {
-    let mut list = [Entry::Missing; 20];
-    for k in 0..10 {
-        let solved = fits[k];
-        list[k] = entry(solved);
-    }
-    list
+    std::array::from_fn(|k| entry(*fits.get(k)?))
 }
 
 // ---- the fit that wins
@@ -121,53 +120,46 @@ fn model(s: Solution, position: usize, dt_s: f32) -> RateModel
     requires { position ≤ entry_count }
     ensures { result ≡ model_of s position dt_s }
 {
-    let delay = Delay::from_recorded(position);
     RateModel {
-        r1: 1.0 + s.c0 + s.c1,
-        r2: -s.c1,
-        m0: s.c2,
-        m1: s.c3,
-        m2: s.c4,
-        delay: delay,
-        dt_s: dt_s,
+        r1: 1.0 + s.c[0] + s.c[1],
+        r2: -s.c[1],
+        m0: s.c[2],
+        m1: s.c[3],
+        m2: s.c[4],
+        delay: Delay::from_recorded(position),
+        dt_s,
     }
 }
 
-fn fit(solved: Solved, position: usize, dt_s: f32, rows: usize) -> RecordedFit
+#[tactic(auto, unfolding(crate::specs::Classify::fit_at))]
+fn fit(solved: Option<Solution>, position: usize, dt_s: f32, rows: usize) -> Option<RecordedFit>
     requires { (position ≤ entry_count) × (rows ≤ capacity) }
     ensures { result ≡ fit_at solved position dt_s rows }
 {
-    match solved {
-        Solved::NoFit => RecordedFit::NoFit,
-        Solved::Fit(s) => RecordedFit::Fit(
-            model(s, position, dt_s),
-            float::root(s.residual / at_least_one(rows)),
-        ),
-    }
+    let s = solved?;
+    Some(RecordedFit {
+        model: model(s, position, dt_s),
+        rms: float::root(s.residual / at_least_one(rows)),
+    })
 }
 
-// The recorded fit of a window's first `len` samples, at the delay that the tie rule picks.
-pub fn fit_recorded(
-    rates: &[f32; 2048],
-    moments: &[f32; 2048],
-    held: &[bool; 2048],
-    len: usize,
-    duration_s: f32,
-) -> RecordedFit
-    ensures { result ≡ fit_recorded (take len rates.now) (take len moments.now) (take len held.now) duration_s }
+// The recorded fit of a window, at the delay that the tie rule picks.
+pub fn fit_recorded(readings: Readings<'_>) -> Option<RecordedFit>
+    ensures { let n = stored_of readings.entry.window in result ≡ fit_recorded (take n readings.entry.rates.now) (take n readings.entry.moments.now) (take n readings.entry.held.now) readings.entry.window.duration_s }
 {
-    let n = stored(rates, moments, held, len);
-    let shared = shared_sums::sum_shared(rates, moments, held, n);
+    let Readings {
+        window,
+        rates,
+        moments,
+        held,
+    } = readings;
+    let n = stored(window, rates, moments, held);
+    let shared = shared_sums::sum_shared(readings);
     let rows = shared.rows;
-    let dt_s = sum_rows_dt(rows, duration_s / at_least_one(n)) / at_least_one(rows);
+    let dt_s = sum_rows_dt(rows, window.duration_s / at_least_one(n)) / at_least_one(rows);
     let fits = solve_delays(shared);
-    match delay::delay_to_fit(entries(fits), TIE_SHARE) {
-        Position::Nowhere => RecordedFit::NoFit,
-        Position::At(p) => {
-            let solved = fits[p - 1];
-            fit(solved, p, dt_s, rows)
-        }
-    }
+    let p = delay::delay_to_fit(entries(fits), TIE_SHARE)?;
+    fit(fits[p - 1], p, dt_s, rows)
 }
 
 // ---- the class of a window
@@ -175,52 +167,36 @@ pub fn fit_recorded(
 fn is_at_rail(moment: f32) -> bool
     ensures { result ≡ at_rail moment }
 {
-    if moment < 0.0 {
-        return -moment >= SATURATED_MOMENT;
-    }
-    moment >= SATURATED_MOMENT
+    moment.abs() >= SATURATED_MOMENT
 }
 
-fn count_at_rail(moments: &[f32; 2048], n: usize) -> usize
-    requires { (n ≤ capacity) × (length moments.now ≡ capacity) }
-    ensures { (result ≡ count_at_rail (take n moments.now)) × (result ≤ n) }
+fn count_at_rail(moments: &[f32]) -> usize
+    ensures { result ≡ count_by at_rail moments.now }
 {
-    let mut count = 0;
-    for k in 0..n {
-        if is_at_rail(moments[k]) {
-            count = count + 1;
-        }
-    }
-    count
+    moments.iter().filter(|m| is_at_rail(**m)).count()
 }
 
-fn is_saturated(moments: &[f32; 2048], n: usize) -> bool
-    requires { (n ≤ capacity) × (length moments.now ≡ capacity) }
-    ensures { result ≡ saturated_by (take n moments.now) }
+fn is_saturated(moments: &[f32]) -> bool
+    requires { length moments.now ≤ capacity }
+    ensures { result ≡ saturated_by moments.now }
 {
-    whole(count_at_rail(moments, n)) > SATURATED_SHARE * whole(n)
+    whole(count_at_rail(moments)) > SATURATED_SHARE * whole(moments.len())
 }
 
-// Which fit a window's first `len` samples take.
-pub fn classify(
-    rates: &[f32; 2048],
-    moments: &[f32; 2048],
-    held: &[bool; 2048],
-    len: usize,
-    duration_s: f32,
-) -> Classified
-    ensures { result ≡ class_of_window (take len rates.now) (take len moments.now) (take len held.now) duration_s }
+// Which fit a window takes.
+#[tactic(auto, unfolding(window::specs::Arrays::stored_of))]
+pub fn classify(readings: Readings<'_>) -> Classified
+    ensures { let n = stored_of readings.entry.window in result ≡ class_of_window (take n readings.entry.rates.now) (take n readings.entry.moments.now) (take n readings.entry.held.now) readings.entry.window.duration_s }
 {
-    match fit_recorded(rates, moments, held, len, duration_s) {
-        RecordedFit::NoFit => Classified::Unexcited,
-        RecordedFit::Fit(model, rms) => {
-            if rms <= NOISY_RESIDUAL_RADPS {
-                return Classified::Recorded(model);
-            }
-            if is_saturated(moments, stored(rates, moments, held, len)) {
-                return Classified::Saturated;
-            }
-            Classified::Integrated
-        }
+    let Some(fit) = fit_recorded(readings) else {
+        return Classified::Unexcited;
+    };
+    if fit.rms <= NOISY_RESIDUAL_RADPS {
+        return Classified::Recorded(fit.model);
     }
+    let moments = readings.moments;
+    if is_saturated(&moments[..readings.window.stored()]) {
+        return Classified::Saturated;
+    }
+    Classified::Integrated
 }

@@ -4,39 +4,37 @@
 
 ghost use Rattle.std.specs.Prelude.{◌≤◌};
 
-use delay::{Entry, Position};
-use least_squares::{Solved, Sums};
+use delay::Entry;
+use least_squares::Sums;
 use recorded::{Classified, RecordedFit};
 use std::io;
 use vectors::{is_at, part, replay, same};
+use window::{Readings, Window};
 use wire::{read_float, read_word};
 
 // ---- the tie rule
 
 // Entry k, of which the mask says whether it is there.
-fn entry(mask: u32, k: u32, effect: f32, residual: f32) -> Entry {
+fn entry(mask: u32, k: u32, effect: f32, residual: f32) -> Option<Entry> {
     if 31 < k {
-        return Entry::Missing;
+        return None;
     }
     if (mask >> k) % 2 == 0 {
-        return Entry::Missing;
+        return None;
     }
-    Entry::Fit(effect, residual)
+    Some(Entry { effect, residual })
 }
 
 // f share, w mask, 21 entries of f effect and f residual, of which the rule reads 20; w position, 0 for none.
 fn tie_agrees(s: &[u8]) -> bool {
     let mask = read_word(s, 4);
-    let mut entries = [Entry::Missing; 20];
+    let mut entries = [None; 20];
     for k in 0..20usize {
         let at = 8 + k * 8;
         entries[k] = entry(mask, k as u32, read_float(s, at), read_float(s, at + 4));
     }
     let expected = read_word(s, 176) as usize;
-    match delay::delay_to_fit(entries, read_float(s, 0)) {
-        Position::Nowhere => expected == 0,
-        Position::At(p) => expected == p,
-    }
+    delay::delay_to_fit(entries, read_float(s, 0)).unwrap_or(0) == expected
 }
 
 // ---- sums and their solution
@@ -44,42 +42,38 @@ fn tie_agrees(s: &[u8]) -> bool {
 // 36 f normal, 6 f projected, f target squared.
 fn sums(s: &[u8]) -> Sums {
     let mut normal = [0.0f32; 36];
-    for n in 0..36usize {
-        normal[n] = read_float(s, n * 4);
+    for (n, entry) in normal.iter_mut().enumerate() {
+        *entry = read_float(s, n * 4);
     }
     let mut projected = [0.0f32; 6];
-    for i in 0..6usize {
-        projected[i] = read_float(s, 144 + i * 4);
+    for (i, entry) in projected.iter_mut().enumerate() {
+        *entry = read_float(s, 144 + i * 4);
     }
     Sums {
-        normal: normal,
-        projected: projected,
+        normal,
+        projected,
         target_squared: read_float(s, 168),
     }
 }
 
 fn same_sums(a: Sums, b: Sums) -> bool {
-    let mut ok = same(a.target_squared, b.target_squared);
-    for n in 0..36 {
-        ok = ok & same(a.normal[n], b.normal[n]);
-    }
-    for i in 0..6 {
-        ok = ok & same(a.projected[i], b.projected[i]);
-    }
-    ok
+    same(a.target_squared, b.target_squared)
+        & a.normal.iter().zip(&b.normal).all(|(x, y)| same(*x, *y))
+        & a.projected
+            .iter()
+            .zip(&b.projected)
+            .all(|(x, y)| same(*x, *y))
 }
 
 // The sums; w 1 for a fit, else 0; six f coefficients, f residual.
 fn solve_agrees(s: &[u8]) -> bool {
     match sums(s).solve() {
-        Solved::NoFit => read_word(s, 172) == 0,
-        Solved::Fit(f) => (read_word(s, 172) == 1)
-            & is_at(f.c0, s, 176)
-            & is_at(f.c1, s, 180)
-            & is_at(f.c2, s, 184)
-            & is_at(f.c3, s, 188)
-            & is_at(f.c4, s, 192)
-            & is_at(f.c5, s, 196)
+        None => read_word(s, 172) == 0,
+        Some(f) => (read_word(s, 172) == 1)
+            & f.c
+                .iter()
+                .enumerate()
+                .all(|(i, c)| is_at(*c, s, 176 + i * 4))
             & is_at(f.residual, s, 200),
     }
 }
@@ -90,8 +84,7 @@ fn solve_agrees(s: &[u8]) -> bool {
 fn stored(s: &[u8]) -> usize
     ensures { result ≤ 2048 }
 {
-    let n = read_word(s, 0);
-    if n < 2048 { n as usize } else { 2048 }
+    read_word(s, 0).min(2048) as usize
 }
 
 // w stored; each f rate, f moment, w mark.
@@ -119,16 +112,22 @@ fn sums_agree(s: &[u8]) -> bool {
     let mut moments = [0.0f32; 2048];
     let mut held = [false; 2048];
     read_window(s, n, &mut rates, &mut moments, &mut held);
-    let shared = shared_sums::sum_shared(&rates, &moments, &held, n);
+    let readings = Readings {
+        window: Window {
+            len: n,
+            duration_s: 0.0,
+        },
+        rates: &rates,
+        moments: &moments,
+        held: &held,
+    };
+    let shared = shared_sums::sum_shared(readings);
     let answers = part(s, 8 + n * 12, 1720);
-    let mut ok = true;
-    for k in 0..10 {
+    (0..10usize).all(|k| {
         let expected = sums(part(answers, k * 172, 172));
-        let alone = rows::add_window(&rates, &moments, &held, n, k + 1, rows::no_sums());
-        ok = ok & same_sums(alone, expected);
-        ok = ok & same_sums(delay_sums::delay_sums(shared, k + 1), expected);
-    }
-    ok
+        let alone = rows::add_window(readings, k + 1, rows::no_sums());
+        same_sums(alone, expected) & same_sums(delay_sums::delay_sums(shared, k + 1), expected)
+    })
 }
 
 fn class_number(c: Classified) -> u32 {
@@ -141,10 +140,10 @@ fn class_number(c: Classified) -> u32 {
 }
 
 // w 1 for a fit, else 0; w d; f two rate weights, three moment weights, dt_s, rms.
-fn fit_agrees(fit: RecordedFit, s: &[u8]) -> bool {
+fn fit_agrees(fit: Option<RecordedFit>, s: &[u8]) -> bool {
     match fit {
-        RecordedFit::NoFit => read_word(s, 0) == 0,
-        RecordedFit::Fit(m, r) => (read_word(s, 0) == 1)
+        None => read_word(s, 0) == 0,
+        Some(RecordedFit { model: m, rms }) => (read_word(s, 0) == 1)
             & (m.delay.whole_ticks() == read_word(s, 4))
             & (m.delay.half_tick() == 0)
             & is_at(m.r1, s, 8)
@@ -153,7 +152,7 @@ fn fit_agrees(fit: RecordedFit, s: &[u8]) -> bool {
             & is_at(m.m1, s, 20)
             & is_at(m.m2, s, 24)
             & is_at(m.dt_s, s, 28)
-            & is_at(r, s, 32),
+            & is_at(rms, s, 32),
     }
 }
 
@@ -165,8 +164,14 @@ fn recorded_agrees(s: &[u8]) -> bool {
     let mut held = [false; 2048];
     read_window(s, n, &mut rates, &mut moments, &mut held);
     let duration_s = read_float(s, 4 + n * 12);
-    let fit = recorded::fit_recorded(&rates, &moments, &held, n, duration_s);
-    let class = recorded::classify(&rates, &moments, &held, n, duration_s);
+    let readings = Readings {
+        window: Window { len: n, duration_s },
+        rates: &rates,
+        moments: &moments,
+        held: &held,
+    };
+    let fit = recorded::fit_recorded(readings);
+    let class = recorded::classify(readings);
     let answers = part(s, 8 + n * 12, 40);
     fit_agrees(fit, answers) & (class_number(class) == read_word(answers, 36))
 }

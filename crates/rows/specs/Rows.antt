@@ -5,13 +5,8 @@ use Rattle.std.specs.Float.{binary32}
 use Rattle.std.specs.Float.Ieee.{add, sub, mul}
 use Rattle.float.specs.Values.{zero32, one32}
 use Rattle.float.specs.Series.{at}
-use Rattle.window.specs.Samples.{capacity}
 use Rattle.window.specs.Walk.{over, is_row, mark_at}
 use Rattle.least_squares.specs.declared.Sums.{Sums}
-
--- a length of a window's arrays, which hold 2,048
-abbrev pub length_within : ℕ → ℕ
-length_within len = min len capacity
 
 -- "Delay d is 1 to 10": what is outside is read as the nearest of them
 abbrev pub delay_within : ℕ → ℕ

@@ -2,12 +2,11 @@
 use Prim.Native.Nat.{ℕ}
 use mathlib.Core.Path.{◌≡◌, refl}
 use mathlib.Core.Bool.{Bool, true, false, not, ◌||◌}
-use mathlib.Core.Option.{Option}
+use Rattle.std.specs.Prelude.{Option, Some, None}
 use lib.Ieee.{Float, lt}
 use Rattle.float.specs.Values.{finite}
 use Rattle.account.specs.declared.IdentifyConfig.{IdentifyConfig}
 use Rattle.account.specs.declared.IdentifyExtension.{IdentifyExtension}
-use Rattle.account.specs.declared.Noisy.TheVariants.{Absent, Present}
 use Rattle.account.specs.Rules.{positive, non_zero, too_long, broken_extension, broken, overrun, refusal}
 
 module _ (c : IdentifyConfig) where
@@ -33,11 +32,11 @@ module _ (c : IdentifyConfig) where
   rule_3 a d w = rw (a, d, w)
 
   module _ (a : BadAmplitude false) (d : BadDuration false) (w : BadWashout false) where
-    pub no_extension : c.noisy ≡ Absent → 0 ≡ broken c
+    pub no_extension : c.noisy ≡ None → 0 ≡ broken c
     unfolding broken broken_extension
     no_extension n = rw (a, d, w, n)
 
-    module _ (x : IdentifyExtension) (n : c.noisy ≡ Present x) where
+    module _ (x : IdentifyExtension) (n : c.noisy ≡ Some x) where
       abbrev pub BadLength : Bool → Type 0
       BadLength b = (not (finite x.duration_s) || lt x.duration_s c.duration_s || too_long x.duration_s) ≡ b
 

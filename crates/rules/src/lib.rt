@@ -1,21 +1,12 @@
 // The rules 1 to 8: which of them a configuration or a call breaks first.
 #![tactic(auto)]
 
-ghost use Rattle.std.specs.Prelude.{◌≡◌, not, ◌||◌};
-ghost use Rattle.std.proofs.Math.Option.{some};
+ghost use Rattle.std.specs.Prelude.{◌≡◌, not, ◌||◌, Some};
 ghost use Rattle.std.specs.Float.Ieee.{lt};
 ghost use Rattle.float.specs.Values.{finite};
 ghost use Rattle.account.specs.Rules.{positive, non_zero, too_long, broken, overrun, refusal};
-ghost use Rattle.rules.specs.Clock.{clock_of, time_of};
 
-use account::{IdentifyConfig, IdentifyStatus, Noisy};
-
-// The elapsed time of a probe that runs.
-#[derive(Clone, Copy)]
-pub enum Clock {
-    Stopped,
-    At(f32),
-}
+use account::IdentifyConfig;
 
 const LONGEST_S: f32 = 3600.0;
 
@@ -25,7 +16,8 @@ const MOST_TICKS: u32 = 16_777_216;
 
 // ---- a configuration
 
-fn is_positive(x: f32) -> bool
+// Whether a value is positive and finite.
+pub fn is_positive(x: f32) -> bool
     ensures { result ≡ positive x }
 {
     float::is_finite(x) & (x > 0.0)
@@ -68,8 +60,7 @@ pub fn validate(config: IdentifyConfig) -> u32
     if is_bad_time(config.washout_tc_s) {
         return 3;
     }
-    let noisy = config.noisy;
-    let Noisy::Present(extension) = noisy else {
+    let Some(extension) = config.noisy else {
         return 0;
     };
     if is_bad_amplitude(extension.amplitude) {
@@ -85,7 +76,7 @@ pub fn validate(config: IdentifyConfig) -> u32
 
 // The number of the first of the rules 7 and 8 that a call of a running probe breaks, 0 if none.
 fn overruns(elapsed_s: f32, ticks: u32, dt: f32) -> u32
-    ensures { result ≡ overrun (some elapsed_s) ticks dt }
+    ensures { result ≡ overrun (Some elapsed_s) ticks dt }
 {
     if elapsed_s + dt > LATEST_S {
         return 7;
@@ -96,26 +87,14 @@ fn overruns(elapsed_s: f32, ticks: u32, dt: f32) -> u32
     0
 }
 
-// The elapsed time of a status that runs.
-pub fn clock_of(status: IdentifyStatus) -> Clock
-    ensures { result ≡ clock_of status }
-{
-    match status {
-        IdentifyStatus::Running(elapsed_s) => Clock::At(elapsed_s),
-        IdentifyStatus::Done(_) => Clock::Stopped,
-        IdentifyStatus::Unexcited => Clock::Stopped,
-        IdentifyStatus::Saturated => Clock::Stopped,
-    }
-}
-
 // The number of the first of the rules 6 to 8 that a call breaks, 0 if none.
-pub fn refuses(clock: Clock, ticks: u32, dt: f32) -> u32
-    ensures { result ≡ refusal (time_of clock) ticks dt }
+pub fn refuses(clock: Option<f32>, ticks: u32, dt: f32) -> u32
+    ensures { result ≡ refusal clock ticks dt }
 {
     if is_bad_time(dt) {
         return 6;
     }
-    let Clock::At(elapsed_s) = clock else {
+    let Some(elapsed_s) = clock else {
         return 0;
     };
     overruns(elapsed_s, ticks, dt)

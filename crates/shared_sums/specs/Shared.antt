@@ -47,9 +47,7 @@ unfoldable pub shared_sums : List Float → List Float → List Bool → ℕ →
 shared_sums rates moments marks len = record {
   common = common_sums rates marks len;
   lagged = lagged_sums rates moments marks len;
-  pairs0 = pair_sums moments marks 0 len;
-  pairs1 = pair_sums moments marks 1 len;
-  pairs2 = pair_sums moments marks 2 len;
+  pairs = pair_sums moments marks 0 len ∷ pair_sums moments marks 1 len ∷ pair_sums moments marks 2 len ∷ [];
   rows = many_to is_row marks len;
 }
 

@@ -1,7 +1,7 @@
 -- The claim holds of every configuration and every list of calls: probe and account follow one another behind the test too, and what is behind it is plain.
 use mathlib.Core.Path.{◌≡◌, refl, sym, ap, ap₂, subst, ◌∙◌}
 use Rattle.std.specs.Prelude.{ℕ, Bool, true, false, ◌&&◌, cond, List, [], ◌∷◌, map, eqb, leb, Float}
-use Rattle.std.proofs.Math.Option.{Option, none, some}
+use Rattle.std.specs.Prelude.{Option, Some, None}
 use mathlib.Core.List.{foldl-append}
 use Rattle.std.specs.Float.{binary32}
 use Rattle.std.specs.Float.Ieee.{add, lt}
@@ -31,8 +31,8 @@ not_ten e ticks dt = go (positive dt) e
 
     go : (p : Bool) (r : Option Float) → eqb (cond p (overrun r ticks dt) 6) 10 ≡ false
     go false r = refl
-    go true none = refl
-    go true (some x) = late (lt (whole32 4096) (add binary32 x dt)) (leb 16_777_216 ticks)
+    go true None = refl
+    go true (Some x) = late (lt (whole32 4096) (add binary32 x dt)) (leb 16_777_216 ticks)
 
 pub account_not_ten : (a : Account) (c : Call) → eqb (turned a c) 10 ≡ false
 unfolding turned

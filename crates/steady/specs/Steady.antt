@@ -1,6 +1,6 @@
 -- A probe and an account that are opened plain or as steady, and one claim about every list of calls: 02, request six.
 use Rattle.std.specs.Prelude.{ℕ, ◌≡◌, Bool, true, false, cond, List, [], ◌∷◌, ◌++◌, map, Float}
-use Rattle.std.proofs.Math.Option.{Option, none, some}
+use Rattle.std.specs.Prelude.{Option, Some, None}
 use Rattle.account.specs.declared.IdentifyConfig.{IdentifyConfig}
 use Rattle.account.specs.Rules.{positive, overrun}
 use Rattle.account.specs.Probe.{Call, Probe, Reply, refused, number, clock, fresh_at, step, after, replies}
@@ -38,8 +38,8 @@ heard_calls band c calls = heard runs_of dt_of turned next (opened_in band c) ca
 
 -- ---- the probe
 unfoldable pub is_running : Option Float → Bool
-is_running none = false
-is_running (some elapsed) = true
+is_running None = false
+is_running (Some elapsed) = true
 
 abbrev pub probe_runs : Probe → Bool
 probe_runs p = is_running (clock p.standing.status)

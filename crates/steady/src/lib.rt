@@ -3,7 +3,6 @@
 #![tactic(auto)]
 
 ghost use Rattle.std.specs.Prelude.{◌≡◌};
-ghost use Rattle.account.specs.Rules.{positive};
 ghost use Rattle.steady.specs.Band.{uneven, turns_back};
 ghost use Rattle.steady.specs.Kept.{band_in, first_after};
 
@@ -14,13 +13,6 @@ pub enum Band {
     Plain,
     Steady,
     Around(f32),
-}
-
-#[tactic(auto, unfolding(account::specs::Rules::positive))]
-fn is_positive(x: f32) -> bool
-    ensures { result ≡ positive x }
-{
-    float::is_finite(x) & (x > 0.0)
 }
 
 // The band of the word and the float that a caller keeps.
@@ -42,8 +34,7 @@ fn is_uneven(band: Band, dt: f32) -> bool
     ensures { result ≡ uneven band dt }
 {
     match band {
-        Band::Plain => false,
-        Band::Steady => false,
+        Band::Plain | Band::Steady => false,
         Band::Around(first) => (dt < 0.75 * first) | (1.25 * first < dt),
     }
 }
@@ -53,7 +44,7 @@ fn is_uneven(band: Band, dt: f32) -> bool
 pub fn turns_back(band: Band, running: bool, dt: f32) -> bool
     ensures { result ≡ turns_back band running dt }
 {
-    running & (is_positive(dt) & is_uneven(band, dt))
+    running & (rules::is_positive(dt) & is_uneven(band, dt))
 }
 
 // The first dt after a call of a probe that ran or had ended, which was answered with this number.
@@ -61,15 +52,11 @@ pub fn turns_back(band: Band, running: bool, dt: f32) -> bool
 pub fn first_after(band: Band, number: u32, running: bool, first_dt_s: f32, dt: f32) -> f32
     ensures { result ≡ first_after number running band first_dt_s dt }
 {
-    if number != 0 {
-        return first_dt_s;
-    }
-    if !running {
+    if (number != 0) | !running {
         return first_dt_s;
     }
     match band {
-        Band::Plain => first_dt_s,
         Band::Steady => dt,
-        Band::Around(_) => first_dt_s,
+        Band::Plain | Band::Around(_) => first_dt_s,
     }
 }

@@ -58,16 +58,11 @@ pub fn open(
 
 // ---- step
 
-#[tactic(auto, unfolding(steady::specs::Steady::is_running, account::specs::Probe::clock))]
+#[tactic(auto, unfolding(steady::specs::Steady::is_running))]
 pub fn is_running(status: IdentifyStatus) -> bool
     ensures { result ≡ is_running (clock status) }
 {
-    match status {
-        IdentifyStatus::Running(_) => true,
-        IdentifyStatus::Done(_) => false,
-        IdentifyStatus::Unexcited => false,
-        IdentifyStatus::Saturated => false,
-    }
+    status.clock().is_some()
 }
 
 // Whether the probe in these scalars runs.

@@ -57,21 +57,69 @@ impl SquareSweep {
     pub fn with_amplitude(self, amplitude: f32) -> Self
         ensures { result ≡ with_amplitude self amplitude }
     {
-        SquareSweep {
-            amplitude,
-            washout_tc_s: self.washout_tc_s,
-            next_edge_s: self.next_edge_s,
-            edge: self.edge,
-            high: self.high,
-            washout: self.washout,
-        }
+        SquareSweep { amplitude, ..self }
     }
 
     // One tick: the offset at elapsed_s, dt after the last call, and the sweep after it.
     pub fn next(self, dt: f32, elapsed_s: f32) -> Swept
         ensures { result ≡ next_sweep self dt elapsed_s }
     {
-        wash(pass_edges(self, elapsed_s), dt)
+        self.pass_edges(elapsed_s).wash(dt)
+    }
+
+    fn is_due(self, elapsed_s: f32) -> bool
+        ensures { result ≡ due elapsed_s self }
+    {
+        self.next_edge_s <= elapsed_s
+    }
+
+    fn pass_edge(self) -> Self
+        requires { self.edge < 32769 }
+        ensures { result ≡ pass_edge self }
+    {
+        let edge = self.edge + 1;
+        SquareSweep {
+            next_edge_s: self.next_edge_s + half_period_s(edge),
+            edge,
+            high: !self.high,
+            ..self
+        }
+    }
+
+    // Every edge up to the elapsed time is passed.
+    fn pass_edges(self, elapsed_s: f32) -> Self
+        ensures { result ≡ pass_edges elapsed_s self }
+    {
+        let mut s = self;
+        while s.edge < LAST_EDGE && s.is_due(elapsed_s) {
+            s = s.pass_edge();
+        }
+        s
+    }
+
+    // The wave at a tick, less its washout.
+    fn wash(self, dt: f32) -> Swept
+        ensures { result ≡ swept self dt }
+    {
+        let square = self.level();
+        let washout = self.washout
+            + (square - self.washout) * float::min(dt / self.washout_tc_s, 1.0);
+        Swept {
+            offset: square - washout,
+            sweep: self.with_washout(washout),
+        }
+    }
+
+    fn level(self) -> f32
+        ensures { result ≡ square self }
+    {
+        if self.high { self.amplitude } else { 0.0 }
+    }
+
+    fn with_washout(self, washout: f32) -> Self
+        ensures { result ≡ with_washout self washout }
+    {
+        SquareSweep { washout, ..self }
     }
 }
 
@@ -80,83 +128,7 @@ pub fn advance(sweep: &mut SquareSweep, dt: f32, elapsed_s: f32) -> f32
     ensures { (result ≡ (next_sweep sweep.old dt elapsed_s).offset)
         × (sweep.new ≡ (next_sweep sweep.old dt elapsed_s).sweep) }
 {
-    let swept = (*sweep).next(dt, elapsed_s);
+    let swept = sweep.next(dt, elapsed_s);
     *sweep = swept.sweep;
     swept.offset
-}
-
-// The same of a sweep by value, for callers that hold no borrow of one.
-pub fn advanced(mut sweep: SquareSweep, dt: f32, elapsed_s: f32) -> Swept
-    ensures { result ≡ next_sweep sweep dt elapsed_s }
-{
-    let offset = advance(&mut sweep, dt, elapsed_s);
-    Swept { offset, sweep }
-}
-
-fn is_due(sweep: SquareSweep, elapsed_s: f32) -> bool
-    ensures { result ≡ due elapsed_s sweep }
-{
-    sweep.next_edge_s <= elapsed_s
-}
-
-fn pass_edge(sweep: SquareSweep) -> SquareSweep
-    requires { sweep.edge < 32769 }
-    ensures { result ≡ pass_edge sweep }
-{
-    let edge = sweep.edge + 1;
-    SquareSweep {
-        amplitude: sweep.amplitude,
-        washout_tc_s: sweep.washout_tc_s,
-        next_edge_s: sweep.next_edge_s + half_period_s(edge),
-        edge,
-        high: !sweep.high,
-        washout: sweep.washout,
-    }
-}
-
-// Every edge up to the elapsed time is passed.
-fn pass_edges(sweep: SquareSweep, elapsed_s: f32) -> SquareSweep
-    ensures { result ≡ pass_edges elapsed_s sweep }
-{
-    let mut s = sweep;
-    while s.edge < LAST_EDGE {
-        if is_due(s, elapsed_s) {
-            s = pass_edge(s);
-        } else {
-            return s;
-        }
-    }
-    s
-}
-
-// The wave at a tick, less its washout.
-fn wash(sweep: SquareSweep, dt: f32) -> Swept
-    ensures { result ≡ swept sweep dt }
-{
-    let square = level(sweep);
-    let washout = sweep.washout
-        + (square - sweep.washout) * float::min(dt / sweep.washout_tc_s, 1.0);
-    Swept {
-        offset: square - washout,
-        sweep: with_washout(sweep, washout),
-    }
-}
-
-fn level(sweep: SquareSweep) -> f32
-    ensures { result ≡ square sweep }
-{
-    if sweep.high { sweep.amplitude } else { 0.0 }
-}
-
-fn with_washout(sweep: SquareSweep, washout: f32) -> SquareSweep
-    ensures { result ≡ with_washout sweep washout }
-{
-    SquareSweep {
-        amplitude: sweep.amplitude,
-        washout_tc_s: sweep.washout_tc_s,
-        next_edge_s: sweep.next_edge_s,
-        edge: sweep.edge,
-        high: sweep.high,
-        washout,
-    }
 }

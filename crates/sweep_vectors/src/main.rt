@@ -5,7 +5,7 @@
 
 use std::io;
 use sweep::SquareSweep;
-use vectors::{flag, is_at, replay};
+use vectors::{is_at, replay};
 use wire::{read_float, read_word};
 
 // w index, f half period.
@@ -30,7 +30,7 @@ fn tick_agrees(s: &[u8]) -> bool {
         & is_at(after.washout_tc_s, s, 4)
         & (after.edge == read_word(s, 32))
         & is_at(after.next_edge_s, s, 36)
-        & (flag(after.high) == read_word(s, 40))
+        & (u32::from(after.high) == read_word(s, 40))
         & is_at(after.washout, s, 44)
         & is_at(swept.offset, s, 48)
 }

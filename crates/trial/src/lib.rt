@@ -2,83 +2,66 @@
 // Lag, leaky sum and products go in one pass, with no series stored.
 #![tactic(auto)]
 
-ghost use Rattle.std.specs.Prelude.{◌≡◌, ◌-◌, ◌≤◌, min};
+ghost use Rattle.std.specs.Prelude.{◌≡◌, ◌-◌, min};
 ghost use Rattle.float.specs.Series.{at};
-ghost use Rattle.lags.specs.Lags.{lag_to};
 ghost use Rattle.gain.specs.Gain.{first_tick, regressor, through, gain_fit};
-ghost use Rattle.gain.specs.Prepared.{fit_with, Summed};
-ghost use Rattle.trial.specs.Trial.{first_moment};
+ghost use Rattle.gain.specs.Prepared.{ticks_of, fit_of, Summed};
+ghost use Rattle.trial.specs.Trial.{first_moment, lag_of_all};
 
-use gain::{GainFit, Shared, StepSums};
+use gain::{FitInput, GainFit, StepSums};
 
 // Where the moments of a step begin: at the one that tick 11 meets, 12 less the whole ticks.
 fn first_moment(step: usize) -> usize
     ensures { result ≡ first_moment step }
 {
     let whole = step / 2 + 1;
-    if 12 <= whole {
-        return 0;
-    }
-    12 - whole
+    12usize.saturating_sub(whole)
 }
 
-// The first n moments through a lag.
-fn lag_before(moments: &[f32; 2048], pole: f32, n: usize) -> f32
-    requires { n ≤ 2048 }
-    ensures { result ≡ lag_to pole (at moments.now) n }
+// All of the moments through a lag.
+fn lag_before(moments: &[f32], pole: f32) -> f32
+    ensures { result ≡ lag_of_all pole moments.now }
 {
-    let mut lagged = 0.0f32;
-    for k in 0..n {
-        lagged = gain::lag_on(pole, lagged, moments[k]);
-    }
-    lagged
+    moments.iter().fold(0.0f32, |lagged, moment| gain::lag_on(pole, lagged, *moment))
 }
 
-// The sums of one step at one pole, over n ticks.
-fn step_sums(
-    moments: &[f32; 2048],
-    cs: &[f64; 2048],
-    ts: &[f64; 2048],
-    carry: f64,
-    step: usize,
-    pole: f32,
-    n: usize,
-) -> StepSums
-    requires { n ≤ 2037 }
-    ensures { Summed (through carry (regressor step pole (at moments.now))) (at cs.now) (at ts.now) n result }
+// The sums of one step at one pole.
+fn step_sums(input: FitInput<'_>, step: usize, pole: f32) -> StepSums
+    ensures { Summed (through input.entry.shared.carry (regressor step pole (at input.entry.moments.now))) (at input.entry.constants.now) (at input.entry.changes.now) (ticks_of input.entry.shared) result }
 {
+    let FitInput {
+        moments,
+        constants,
+        changes,
+        shared,
+    } = input;
     let first = first_moment(step);
-    let mut lagged = lag_before(moments, pole, first);
-    let mut last = std::num::f32_to_f64_with_nan(lagged);
+    let half = step % 2 == 1;
+    let mut lagged = lag_before(&moments[..first], pole);
+    let mut last = f64::from(lagged);
     let mut m = 0.0f64;
-    let mut mm = 0.0f64;
-    let mut mc = 0.0f64;
-    let mut mt = 0.0f64;
+    let mut sums = StepSums {
+        mm: 0.0,
+        mc: 0.0,
+        mt: 0.0,
+    };
+    let n = shared.fitted();
+    // By index: three series side by side, one of them from first on. Zipped they are three ranges and a nested pattern, which is no plainer.
     for i in 0..n {
         lagged = gain::lag_on(pole, lagged, moments[first + i]);
-        let now = std::num::f32_to_f64_with_nan(lagged);
-        m = carry * m + gain::blend(step % 2, now, last);
-        mm = mm + m * m;
-        mc = mc + m * cs[i];
-        mt = mt + m * ts[i];
+        let now = f64::from(lagged);
+        m = shared.carry * m + gain::blend(half, now, last);
+        sums = sums.plus(m, constants[i], changes[i]);
         last = now;
     }
-    StepSums { mm, mc, mt }
+    sums
 }
 
-// The fit of a step at a pole, from a window's moments, its two leaky series and their sums.
-pub fn fit_at(
-    moments: &[f32; 2048],
-    cs: &[f64; 2048],
-    ts: &[f64; 2048],
-    w: Shared,
-    step: usize,
-    pole: f32,
-) -> GainFit
-    ensures { result ≡ fit_with w (at moments.now) (at cs.now) (at ts.now) step pole }
+// The fit of a step at a pole, from what a window's fits read.
+pub fn fit_at(input: FitInput<'_>, step: usize, pole: f32) -> Option<GainFit>
+    ensures { result ≡ fit_of input.entry step pole }
 {
-    let s = step_sums(moments, cs, ts, w.carry, step, pole, w.fitted());
-    gain::solve(s.mm, s.mc, w.cc, s.mt, w.ct, w.tt)
+    input.shared.solve(step_sums(input, step, pole))
 }
 
 // One gain fit of a window, whatever the step and the pole.
@@ -89,11 +72,17 @@ pub fn fit_gain(
     carry: f64,
     step: usize,
     pole: f32,
-) -> GainFit
+) -> Option<GainFit>
     ensures { result ≡ gain_fit carry (at moments.now) (at rates.now) (min len 2048 - first_tick) step pole }
 {
-    let mut cs = [0.0f64; 2048];
-    let mut ts = [0.0f64; 2048];
-    let w = gain::prepare(rates, carry, len, &mut cs, &mut ts);
-    fit_at(moments, &cs, &ts, w, step, pole)
+    let mut constants = [0.0f64; 2048];
+    let mut changes = [0.0f64; 2048];
+    let shared = gain::prepare(rates, carry, len, &mut constants, &mut changes);
+    let input = FitInput {
+        moments,
+        constants: &constants,
+        changes: &changes,
+        shared,
+    };
+    fit_at(input, step, pole)
 }

@@ -4,8 +4,7 @@ use mathlib.Core.Path.{◌≡◌, refl, sym, ap, subst₂, ◌∙◌}
 use mathlib.Core.Bool.{Bool, true, false, not, ◌&&◌, ◌||◌, or-true, true≢false}
 use lib.Ieee.{Float, binary32, add, lt}
 use Rattle.account.specs.declared.IdentifyExtension.{IdentifyExtension}
-use Rattle.account.specs.declared.Noisy.{Noisy}
-use Rattle.account.specs.declared.Noisy.TheVariants.{Absent, Present}
+use Rattle.std.specs.Prelude.{Option, Some, None}
 use Rattle.account.specs.Probe.{Call}
 use Rattle.account.specs.Account.{Account, entry, counted, is_integrated, account_class, judged, ended, accept, continue, next, turned}
 use Rattle.two_axis.specs.Axes.{Axis, first, second, TwoCall, call_of, tied}
@@ -22,24 +21,24 @@ not_true true h = absurd (true≢false (sym h))
 not_true false h = refl
 
 module _ (e : IdentifyExtension) where
-  abbrev Taken : Float → Noisy → Type 0
-  Taken end unused = (end ≡ e.duration_s) × (unused ≡ Absent)
+  abbrev Taken : Float → Option IdentifyExtension → Type 0
+  Taken end unused = (end ≡ e.duration_s) × (unused ≡ None)
 
-  judges : (w : Bool) (u : Noisy) (a : Account) → w ≡ true → u ≡ Present e → Taken (judged w u a).end (judged w u a).unused
+  judges : (w : Bool) (u : Option IdentifyExtension) (a : Account) → w ≡ true → u ≡ Some e → Taken (judged w u a).end (judged w u a).unused
   unfolding judged
   judges w u a i h = rw (i, h) (refl, refl)
 
-  ends : (w l : Bool) (a : Account) → (w || is_integrated (account_class a)) ≡ true → l ≡ false → a.unused ≡ Present e → Taken (ended w l a).end (ended w l a).unused
+  ends : (w l : Bool) (a : Account) → (w || is_integrated (account_class a)) ≡ true → l ≡ false → a.unused ≡ Some e → Taken (ended w l a).end (ended w l a).unused
   unfolding ended
   ends w l a i b h = rw b (judges _ _ a i h)
 
   nexts : (a : Account) (c : Call) → a.running ≡ true → turned a c ≡ 0 → lt (add binary32 a.elapsed c.dt) a.end ≡ false
-      → (c.asked || is_integrated (account_class (counted a c))) ≡ true → a.unused ≡ Present e → Taken (next a c).end (next a c).unused
+      → (c.asked || is_integrated (account_class (counted a c))) ≡ true → a.unused ≡ Some e → Taken (next a c).end (next a c).unused
   unfolding next continue accept counted
   nexts a c r t b i h = subst₂ (λ (n : ℕ) (s : Bool). Taken (continue n s a c).end (continue n s a c).unused) (sym t) (sym r) (ends c.asked _ (counted a c) i b h)
 
   module _ (a : Accounts) (h : Together (a first) (a second)) (k : TwoCall) where
-    own : (x : Axis) → turned (a x) (call_of k x false) ≡ 0 → wishes (a x) (call_of k x false) ≡ true → (a x).unused ≡ Present e
+    own : (x : Axis) → turned (a x) (call_of k x false) ≡ 0 → wishes (a x) (call_of k x false) ≡ true → (a x).unused ≡ Some e
         → Taken (next_two a k x).end (next_two a k x).unused
     unfolding wishes counted entry turned
     own x t w u =
@@ -48,7 +47,7 @@ module _ (e : IdentifyExtension) where
         nexts (a x) (tied wishes a k x) s.0 t (not_true _ s.1) (ap (λ (b : Bool). asked || b) s.2 ∙ or-true asked) u
 
     -- the two have one end and one extension, so what one takes the other takes
-    pub extended : (x y : Axis) → turned (a x) (call_of k x false) ≡ 0 → wishes (a x) (call_of k x false) ≡ true → (a x).unused ≡ Present e
+    pub extended : (x y : Axis) → turned (a x) (call_of k x false) ≡ 0 → wishes (a x) (call_of k x false) ≡ true → (a x).unused ≡ Some e
         → Taken (next_two a k y).end (next_two a k y).unused
     extended first first t w u = own first t w u
     extended first second t w u = let o = own first t w u in (sym (both a h k).end ∙ o.0, sym (both a h k).unused ∙ o.1)

@@ -1,7 +1,7 @@
 -- Each axis is a single probe over its own calls: the wish of a probe is that of its account, so the two say the same bits.
 use mathlib.Core.Path.{◌≡◌, refl, sym, ap, subst, ◌∙◌}
 use mathlib.Core.Bool.{Bool, true, false, not, ◌&&◌}
-use mathlib.Core.Option.{some}
+use Rattle.std.specs.Prelude.{Option, Some, None}
 use mathlib.Core.List.{List, [], ◌∷◌}
 use lib.Ieee.{Float, binary32, add, lt}
 use Rattle.sweep.specs.declared.SquareSweep.{SquareSweep}
@@ -17,7 +17,7 @@ use Rattle.two_axis.specs.Accounts as accounts
 use Rattle.two_axis.proofs.Tied.{tied_first, tied_second}
 
 -- what a running probe wishes
-wish_on : (e : Float) (p : Probe) (c : Call) → wishes_at (some e) p c
+wish_on : (e : Float) (p : Probe) (c : Call) → wishes_at (Some e) p c
     ≡ (not (lt (add binary32 e c.dt) p.end) && (let w = (tick e p c).probe.samples in is_integrated (classify w.rates w.moments w.marks w.duration)))
 unfolding wishes_at
 wish_on e p c = refl

@@ -1,12 +1,11 @@
 -- The two accounts keep one clock: they turn the same calls back, take the extension at the same call, and end at the same call.
 use Prim.Native.Nat.{ℕ, zero, suc}
 use mathlib.Core.Path.{◌≡◌, refl, sym, ap, ap₂, subst₂, ◌∙◌}
-use mathlib.Core.Option.{some}
+use Rattle.std.specs.Prelude.{Option, Some, None}
 use mathlib.Core.Bool.{Bool, true, false, not, ◌&&◌, ◌||◌, or_comm}
 use mathlib.Core.List.{List, [], ◌∷◌}
 use lib.Ieee.{binary32, add, lt}
-use Rattle.account.specs.declared.Noisy.{Noisy}
-use Rattle.account.specs.declared.Noisy.TheVariants.{Absent, Present}
+use Rattle.account.specs.declared.IdentifyExtension.{IdentifyExtension}
 use Rattle.account.specs.Probe.{Call}
 use Rattle.account.specs.Account.{Account, Going, entry, counted, is_integrated, account_class, judged, ended, accept, continue, next, time, turned, turned_back}
 use Rattle.two_axis.specs.Axes.{Axis, first, second, TwoCall, call_of, tied}
@@ -20,10 +19,10 @@ pub record Together (a b : Account) : Type 0 where
   pub unused : a.unused ≡ b.unused
   pub running : a.running ≡ b.running
 
-judges : (w : Bool) (u : Noisy) (a b : Account) → a.elapsed ≡ b.elapsed → a.end ≡ b.end → judged w u a ≡ judged w u b
+judges : (w : Bool) (u : Option IdentifyExtension) (a b : Account) → a.elapsed ≡ b.elapsed → a.end ≡ b.end → judged w u a ≡ judged w u b
 unfolding judged
-judges true (Present x) a b e n = rw e
-judges true Absent a b e n = rw n
+judges true (Some x) a b e n = rw e
+judges true None a b e n = rw n
 judges false u a b e n = rw n
 
 -- each is asked by the other's wish, so both take the extension or neither
@@ -32,12 +31,12 @@ ends : (l : Bool) (a b : Account) → a.elapsed ≡ b.elapsed → a.end ≡ b.en
 unfolding ended
 ends true a b e n u = rw (n, u)
 ends false a b e n u =
-    ap₂ (λ (w : Bool) (v : Noisy). judged w v a) (or_comm (is_integrated (account_class b)) (is_integrated (account_class a))) u
+    ap₂ (λ (w : Bool) (v : Option IdentifyExtension). judged w v a) (or_comm (is_integrated (account_class b)) (is_integrated (account_class a))) u
     ∙ judges (is_integrated (account_class a) || is_integrated (account_class b)) b.unused a b e n
 
 times : (r : Bool) (a b : Account) → a.elapsed ≡ b.elapsed → time r a ≡ time r b
 unfolding time
-times true a b e = ap some e
+times true a b e = ap Some e
 times false a b e = refl
 
 pub times_of : (a b : Account) → Together a b → time a.running a ≡ time b.running b

@@ -3,7 +3,7 @@
 use Rattle.std.specs.Prelude.{◌≡◌, true, false, not, List, ◌++◌, map}
 use Rattle.account.specs.declared.IdentifyConfig.{IdentifyConfig}
 use Rattle.account.specs.declared.IdentifyExtension.{IdentifyExtension}
-use Rattle.account.specs.declared.Noisy.TheVariants.{Absent, Present}
+use Rattle.std.specs.Prelude.{Option, Some, None}
 use Rattle.account.specs.Probe.{clock, fresh_at, after, replies, number}
 use Rattle.account.specs.Account.{turned}
 use Rattle.account.specs.Claim.{Accounted}
@@ -26,10 +26,10 @@ pub record TwoAccounted (c : IdentifyConfig) (calls : List TwoCall) (p : Probes)
   pub opposite : (p first).sweep.high ≡ not (p second).sweep.high
   -- "if either window is integrated when duration_s is reached, both take the extension, once": at the next call, which is accepted
   pub extended : (k : TwoCall) (x y : Axis) (e : IdentifyExtension)
-      → turned (a x) (call_of k x false) ≡ 0 → wishes (a x) (call_of k x false) ≡ true → (a x).unused ≡ Present e
-      → ((next_two a k y).end ≡ e.duration_s) × ((next_two a k y).unused ≡ Absent)
+      → turned (a x) (call_of k x false) ≡ 0 → wishes (a x) (call_of k x false) ≡ true → (a x).unused ≡ Some e
+      → ((next_two a k y).end ≡ e.duration_s) × ((next_two a k y).unused ≡ None)
   -- without an extension an axis is the single probe that starts at its level
-  pub alone : c.noisy ≡ Absent → (x : Axis)
+  pub alone : c.noisy ≡ None → (x : Axis)
       → (p x ≡ after (fresh_at (level x) c) (own_calls x calls)) × (replies_two (fresh_two c) calls x ≡ replies (fresh_at (level x) c) (own_calls x calls))
   -- the accounts of these calls and then others are those of the others, continued from these
   pub continued : (others : List TwoCall) (x : Axis) → account_two (opened_two c) (calls ++ others) x ≡ account_two a others x

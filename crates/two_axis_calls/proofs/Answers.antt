@@ -2,7 +2,7 @@
 use Prim.Native.Nat.{ℕ, zero, suc, ◌≤◌}
 use mathlib.Core.Path.{◌≡◌, refl}
 use mathlib.Core.Bool.{false}
-use mathlib.Core.Option.{Option, none, some}
+use Rattle.std.specs.Prelude.{Option, Some, None}
 use native.Mathlib.Omega.{arith}
 use lib.Ieee.{Float}
 use Rattle.account.specs.Rules.{refusal}
@@ -30,9 +30,9 @@ module _ (p : Structs) (l : Lents) (c : TwoCall) where
   answers : (n : ℕ) (t u : Option Float) → n ≤ 8 → number (reply_two (two_answer_by n t u p l c).result first) ≤ 8
   unfolding two_answer_by two_ticked reply_two number
   answers (suc n) t u h = h
-  answers zero none u h = h
-  answers zero (some e) none h = h
-  answers zero (some e) (some d) h = h
+  answers zero None u h = h
+  answers zero (Some e) None h = h
+  answers zero (Some e) (Some d) h = h
 
   pub small_two : number (reply_two (two_stepped_by p l c).result first) ≤ 8
   unfolding two_stepped_by

@@ -3,7 +3,7 @@
 use Prim.Native.Nat.{ℕ, zero, suc, ◌≤◌}
 use mathlib.Core.Path.{◌≡◌, sym, ap, fun_ext, ◌∙◌}
 use mathlib.Core.Bool.{false}
-use mathlib.Core.Option.{Option, none, some}
+use Rattle.std.specs.Prelude.{Option, Some, None}
 use mathlib.Core.List.{List, [], ◌∷◌, ◌++◌, foldl-append}
 use native.Mathlib.Omega.{arith}
 use lib.Ieee.{Float}
@@ -27,17 +27,17 @@ module _ (p : Structs) (l : Lents) (c : TwoCall) where
   still_whole : (n : ℕ) (t u : Option Float) → ((x : Axis) → Whole (l x)) → (x : Axis) → Whole ((two_answer_by n t u p l c).lent x)
   unfolding two_answer_by two_ticked
   still_whole (suc n) t u w x = w x
-  still_whole zero none u w x = w x
-  still_whole zero (some e) none w x = w x
-  still_whole zero (some e) (some d) w x = stored_whole (p x) (l x) (call_of c x false) (axes e d x) (w x)
+  still_whole zero None u w x = w x
+  still_whole zero (Some e) None w x = w x
+  still_whole zero (Some e) (Some d) w x = stored_whole (p x) (l x) (call_of c x false) (axes e d x) (w x)
 
   still_fits : (n : ℕ) (t u : Option Float) → ((x : Axis) → (p x).window.len ≤ capacity) → (x : Axis) → (leaves_two (two_answer_by n t u p l c).result p x).window.len ≤ capacity
   unfolding two_answer_by two_ticked leaves_two
   still_fits (suc n) t u h x = h x
-  still_fits zero none u h x = h x
-  still_fits zero (some e) none h x = h x
-  still_fits zero (some e) (some d) h first = ticked_fits (p first) (l first) (tied_in (axes e d) p l c first) e (h first)
-  still_fits zero (some e) (some d) h second = ticked_fits (p second) (l second) (tied_in (axes e d) p l c second) d (h second)
+  still_fits zero None u h x = h x
+  still_fits zero (Some e) None h x = h x
+  still_fits zero (Some e) (Some d) h first = ticked_fits (p first) (l first) (tied_in (axes e d) p l c first) e (h first)
+  still_fits zero (Some e) (Some d) h second = ticked_fits (p second) (l second) (tied_in (axes e d) p l c second) d (h second)
 
 module _ (c : IdentifyConfig) where
   begin : (l : Lents) (x : Axis) → seen_two (probes_of (fresh_two_axis c)) l x ≡ fresh_two c x

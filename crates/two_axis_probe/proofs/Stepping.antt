@@ -3,7 +3,7 @@
 use Prim.Native.Nat.{ℕ, zero, suc, ◌<◌}
 use mathlib.Core.Path.{◌≡◌, refl, sym, ap, ap₂, ◌∙◌}
 use mathlib.Core.Bool.{Bool, true, false, not, ◌&&◌}
-use mathlib.Core.Option.{Option, none, some}
+use Rattle.std.specs.Prelude.{Option, Some, None}
 use native.Mathlib.Omega.{arith}
 use lib.Ieee.{Float, lt}
 use Rattle.window.specs.Samples.{Samples}
@@ -46,20 +46,20 @@ module _ (p : Structs) (l : Lents) (c : TwoCall) where
   turned_back zero h k = absurd (k refl)
   turned_back (suc n) h k = by (suc n) (clock (p first).status) (clock (p second).status) h refl refl
 
-  pub first_stopped : 0 ≡ number → none ≡ clock (p first).status → ◌≡◌ {A = TwoAnswer} (record { result = Ended; lent = l }) (two_stepped_by p l c)
+  pub first_stopped : 0 ≡ number → None ≡ clock (p first).status → ◌≡◌ {A = TwoAnswer} (record { result = Ended; lent = l }) (two_stepped_by p l c)
   unfolding two_answer_by
-  first_stopped h t = by 0 none (clock (p second).status) h t refl
+  first_stopped h t = by 0 None (clock (p second).status) h t refl
 
-  pub second_stopped : (e : Float) → 0 ≡ number → some e ≡ clock (p first).status → none ≡ clock (p second).status → ◌≡◌ {A = TwoAnswer} (record { result = Ended; lent = l }) (two_stepped_by p l c)
+  pub second_stopped : (e : Float) → 0 ≡ number → Some e ≡ clock (p first).status → None ≡ clock (p second).status → ◌≡◌ {A = TwoAnswer} (record { result = Ended; lent = l }) (two_stepped_by p l c)
   unfolding two_answer_by
-  second_stopped e h t u = by 0 (some e) none h t u
+  second_stopped e h t u = by 0 (Some e) None h t u
 
-  pub both_run : (e d : Float) → 0 ≡ number → some e ≡ clock (p first).status → some d ≡ clock (p second).status → two_ticked (axes e d) p l c ≡ two_stepped_by p l c
+  pub both_run : (e d : Float) → 0 ≡ number → Some e ≡ clock (p first).status → Some d ≡ clock (p second).status → two_ticked (axes e d) p l c ≡ two_stepped_by p l c
   unfolding two_answer_by
-  both_run e d h t u = by 0 (some e) (some d) h t u
+  both_run e d h t u = by 0 (Some e) (Some d) h t u
 
   -- then either axis has room for one more tick
-  pub few : (x : Axis) (e : Float) → 0 ≡ number → some e ≡ clock (p x).status → (p x).ticks < 16_777_216
+  pub few : (x : Axis) (e : Float) → 0 ≡ number → Some e ≡ clock (p x).status → (p x).ticks < 16_777_216
   few first e h t = few_ticks e (p first).ticks c.dt (rw (← t) at (neither _ _ (sym h)).0)
   few second e h t = few_ticks e (p second).ticks c.dt (rw (← t) at (neither _ _ (sym h)).1)
 
@@ -79,7 +79,7 @@ module _ (e : Float) (p : IdentifyProbe) (l : Lent) (c : Call) (whole : Whole l)
   unfolding seen ticked_probe
   samples_are = ap (λ (q : Probe). q.samples) (unfold seen ticked_probe in sees)
 
-  wish_seen : wish_in e p l c ≡ wishes_at (some e) (seen p l) c
+  wish_seen : wish_in e p l c ≡ wishes_at (Some e) (seen p l) c
   unfolding wish_in wishes_at seen begun_by
   wish_seen =
       let b = begun_by e p c.dt in
@@ -92,7 +92,7 @@ module _ (p : Structs) (l : Lents) (c : TwoCall) (whole : (x : Axis) → Whole (
 
   -- both run, for the same time
   module _ (e : Float) where
-    tied_seen : (x : Axis) → clock (p (other x)).status ≡ some e → tied_in (axes e e) p l c x ≡ tied wishes (seen_two p l) c x
+    tied_seen : (x : Axis) → clock (p (other x)).status ≡ Some e → tied_in (axes e e) p l c x ≡ tied wishes (seen_two p l) c x
     unfolding wishes
     tied_seen first h = ap (λ (b : Bool). call_of c first b) (wish_seen e (p second) (l second) (call_of c second false) (whole second) ∙ unfold seen in rw h)
     tied_seen second h = ap (λ (b : Bool). call_of c second b) (wish_seen e (p first) (l first) (call_of c first false) (whole first) ∙ unfold seen in rw h)
@@ -107,8 +107,8 @@ module _ (p : Structs) (l : Lents) (c : TwoCall) (whole : (x : Axis) → Whole (
       → axis_of (two_answer_by n t t p l c) x ≡ answer n t (seen_two p l x) (tied wishes (seen_two p l) c x)
   unfolding two_answer_by answer leaves_two reply_two
   answers (suc n) t h x = refl
-  answers zero none h x = refl
-  answers zero (some e) h x = ticks_axis e x ∙ ap (tick e (seen_two p l x)) (tied_seen e x (h (other x)))
+  answers zero None h x = refl
+  answers zero (Some e) h x = ticks_axis e x ∙ ap (tick e (seen_two p l x)) (tied_seen e x (h (other x)))
 
   -- two axes with one clock and as many ticks
   module _ (clocks : clock (p first).status ≡ clock (p second).status) (same : (p first).ticks ≡ (p second).ticks) where

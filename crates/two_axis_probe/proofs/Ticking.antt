@@ -4,8 +4,8 @@ use mathlib.Core.Bool.{Bool, true}
 use lib.Ieee.{Float, lt}
 use Rattle.window.specs.Lent.{Lent, samples_of}
 use Rattle.account.specs.Probe.{alone}
-use Rattle.closing.specs.declared.Due.{Due}
-use Rattle.closing.specs.declared.Due.TheVariants.{Ahead}
+use Rattle.std.specs.Prelude.{Option, None}
+use Rattle.recorded.specs.declared.Classified.{Classified}
 use Rattle.closing.specs.Ending.{due_by, asks_of, closed_due}
 use Rattle.closing.proofs.Closing.{halves}
 use Rattle.identify.specs.declared.Begun.{Begun}
@@ -21,14 +21,14 @@ by_axis P a b first = a
 by_axis P a b second = b
 
 -- one axis: its halves, with the sample stored in k, and what its window is found to be
-module _ (e : Float) (p : IdentifyProbe) (l : Lent) (dt rate moment : Float) (b : Begun) (k : Lent) (d : Due)
+module _ (e : Float) (p : IdentifyProbe) (l : Lent) (dt rate moment : Float) (b : Begun) (k : Lent) (d : Option Classified)
     (hb : b ≡ begun_by e p dt) (hk : k ≡ stored_in e p l (alone dt rate moment)) (hd : d ≡ due_by (lt b.now_s p.duration_s) (samples_of b.window k)) where
   pub wished : asks_of d ≡ wish_in e p l (alone dt rate moment)
   unfolding wish_in
   wished = rw (hd, hk, hb)
 
   pub leaves : (asked : Bool)
-      → tick_ended p b d asked k.rates k.moments ≡ ticked_probe e p l (record { dt = dt; rate = rate; moment = moment; asked = asked })
+      → tick_ended p b b.window d asked k.rates k.moments ≡ ticked_probe e p l (record { dt = dt; rate = rate; moment = moment; asked = asked })
   unfolding ticked_probe stored_in
   leaves asked =
       rw (hd, halves b.now_s p.duration_s p.noisy b.sweep b.window k.rates k.moments k.offsets k.marks asked, hb)
@@ -39,7 +39,7 @@ pub runs_on : (e : Float) (p : IdentifyProbe) (l : Lent) (dt rate moment : Float
     → b ≡ begun_by e p dt → k ≡ stored_in e p l (alone dt rate moment) → lt b.now_s p.duration_s ≡ true → (asked : Bool)
     → tick_ahead p b ≡ ticked_probe e p l (record { dt = dt; rate = rate; moment = moment; asked = asked })
 unfolding due_by closed_due
-runs_on e p l dt rate moment b k hb hk below asked = leaves e p l dt rate moment b k Ahead hb hk (rw below) asked
+runs_on e p l dt rate moment b k hb hk below asked = leaves e p l dt rate moment b k None hb hk (rw below) asked
 
 -- both
 pub made : (e : Axis → Float) (p : Structs) (l : Lents) (c : TwoCall) (b d : Begun) (q r : IdentifyProbe)

@@ -1,14 +1,15 @@
 -- The probe of two axes, as it stands in the struct and in the arrays that are lent with it; and what `fresh` and `step` make of them.
 use Rattle.std.specs.Prelude.{ℕ, zero, suc, ◌≡◌, Bool, true, false, List, Float}
 use denote.Triple.Both.{Both}
-use Rattle.std.proofs.Math.Option.{Option, none, some}
+use Rattle.std.specs.Prelude.{Option, Some, None}
 use Rattle.std.specs.Float.Ieee.{lt}
 use Rattle.float.specs.Values.{zero32}
+use Rattle.window.specs.declared.Window.{Window}
 use Rattle.window.specs.Lent.{Lent, Borrowed, at_entry, at_exit, samples_of}
 use Rattle.account.specs.declared.IdentifyConfig.{IdentifyConfig}
 use Rattle.account.specs.Rules.{refusal}
 use Rattle.account.specs.Probe.{Call, Reply, offset, refused, clock}
-use Rattle.closing.specs.declared.Due.{Due}
+use Rattle.recorded.specs.declared.Classified.{Classified}
 use Rattle.closing.specs.Ending.{ahead_of, due_by, asks_of, closed_due}
 use Rattle.identify.specs.declared.Begun.{Begun}
 use Rattle.identify.specs.declared.IdentifyProbe.{IdentifyProbe}
@@ -51,10 +52,10 @@ pub record TwoAnswer : Type 0 where
   pub result : TwoStepped
   pub lent : Lents
 
--- the second half of an axis's call, whose first half is b: with what its window is found to be and the other axis's wish; and with the end time still ahead
-abbrev pub tick_ended : IdentifyProbe → Begun → Due → Bool → (rates moments : List Float) → IdentifyProbe
-tick_ended p b d asked rates moments =
-    next_probe (suc p.ticks) b.window (closed_due d asked b.now_s b.window p.duration_s p.noisy b.sweep rates moments)
+-- the second half of an axis's call, whose first half is b and whose window is w: with what its window is found to be and the other axis's wish; and with the end time still ahead
+abbrev pub tick_ended : IdentifyProbe → Begun → Window → Option Classified → Bool → (rates moments : List Float) → IdentifyProbe
+tick_ended p b w d asked rates moments =
+    next_probe (suc p.ticks) w (closed_due d asked b.now_s w p.duration_s p.noisy b.sweep rates moments)
 
 abbrev pub tick_ahead : IdentifyProbe → Begun → IdentifyProbe
 tick_ahead p b = next_probe (suc p.ticks) b.window (ahead_of b.now_s p.duration_s p.noisy b.sweep)
@@ -92,9 +93,9 @@ either_number (suc m) n = suc m
 -- a rule turns the call back; an axis has ended; or both run
 unfoldable pub two_answer_by : ℕ → (time1 time2 : Option Float) → Structs → Lents → TwoCall → TwoAnswer
 two_answer_by (suc n) t u p l c = record { result = Refused (suc n); lent = l }
-two_answer_by zero none u p l c = record { result = Ended; lent = l }
-two_answer_by zero (some e) none p l c = record { result = Ended; lent = l }
-two_answer_by zero (some e) (some d) p l c = two_ticked (axes e d) p l c
+two_answer_by zero None u p l c = record { result = Ended; lent = l }
+two_answer_by zero (Some e) None p l c = record { result = Ended; lent = l }
+two_answer_by zero (Some e) (Some d) p l c = two_ticked (axes e d) p l c
 
 abbrev pub number_in : Structs → Float → Axis → ℕ
 number_in p dt x = refusal (clock (p x).status) (p x).ticks dt

@@ -8,9 +8,9 @@ ghost use Rattle.two_axis.specs.Axes.{axes, two_call};
 ghost use Rattle.two_axis_probe.specs.Stepped.{probes_of, fresh_two_axis, either_number, lents_over, tick_ended, tick_ahead, AnswersTwo, two_ticked, two_stepped_by};
 
 use account::IdentifyConfig;
-use closing::Due;
 use identify::{Begun, IdentifyProbe};
-use rules::Clock;
+use recorded::Classified;
+use window::Readings;
 
 #[derive(Clone, Copy)]
 pub struct TwoAxisProbe {
@@ -32,8 +32,7 @@ pub enum TwoStepped {
 fn number_of(probe: IdentifyProbe, dt: f32) -> u32
     ensures { result ≡ refusal (clock probe.status) probe.ticks dt }
 {
-    let status = probe.status;
-    rules::refuses(rules::clock_of(status), probe.ticks, dt)
+    rules::refuses(probe.status.clock(), probe.ticks, dt)
 }
 
 // A call is turned back for both axes: by the first one's number, or else by the second one's.
@@ -53,29 +52,15 @@ fn either_number(first: IdentifyProbe, second: IdentifyProbe, dt: f32) -> u32
 fn end_tick(
     probe: IdentifyProbe,
     begun: Begun,
-    due: Due,
+    due: Option<Classified>,
     asked: bool,
-    rates: &[f32; 2048],
-    moments: &[f32; 2048],
+    readings: Readings<'_>,
 ) -> IdentifyProbe
     requires { probe.ticks < 16777216 }
-    ensures { result ≡ tick_ended probe begun due asked rates.now moments.now }
+    ensures { result ≡ tick_ended probe begun readings.entry.window due asked readings.entry.rates.now readings.entry.moments.now }
 {
-    let window = begun.window;
-    let noisy = probe.noisy;
-    let sweep = begun.sweep;
-    let end = closing::close_due(
-        due,
-        asked,
-        begun.now_s,
-        window,
-        probe.duration_s,
-        noisy,
-        sweep,
-        rates,
-        moments,
-    );
-    identify::next_probe(probe.ticks + 1, window, end)
+    let end = closing::close_due(due, asked, identify::tick_of(probe, begun), readings);
+    identify::next_probe(probe.ticks + 1, readings.window, end)
 }
 
 // The same with the end time still ahead.
@@ -83,13 +68,10 @@ fn run_on(probe: IdentifyProbe, begun: Begun) -> IdentifyProbe
     requires { probe.ticks < 16777216 }
     ensures { result ≡ tick_ahead probe begun }
 {
-    let window = begun.window;
-    let noisy = probe.noisy;
-    let sweep = begun.sweep;
     identify::next_probe(
         probe.ticks + 1,
-        window,
-        closing::goes_on(begun.now_s, probe.duration_s, noisy, sweep),
+        begun.window,
+        closing::goes_on(identify::tick_of(probe, begun)),
     )
 }
 
@@ -132,26 +114,22 @@ fn tick(
             },
         );
     }
-    let window1 = begun1.window;
-    let window2 = begun2.window;
-    let due1 = closing::due_at(
-        begun1.now_s,
-        first.duration_s,
-        window1,
-        rates1,
-        moments1,
-        held1,
-    );
-    let due2 = closing::due_at(
-        begun2.now_s,
-        second.duration_s,
-        window2,
-        rates2,
-        moments2,
-        held2,
-    );
-    let next1 = end_tick(first, begun1, due1, closing::asks(due2), rates1, moments1);
-    let next2 = end_tick(second, begun2, due2, closing::asks(due1), rates2, moments2);
+    let readings1 = Readings {
+        window: begun1.window,
+        rates: rates1,
+        moments: moments1,
+        held: held1,
+    };
+    let readings2 = Readings {
+        window: begun2.window,
+        rates: rates2,
+        moments: moments2,
+        held: held2,
+    };
+    let due1 = closing::due_at(begun1.now_s, first.duration_s, readings1);
+    let due2 = closing::due_at(begun2.now_s, second.duration_s, readings2);
+    let next1 = end_tick(first, begun1, due1, closing::asks(due2), readings1);
+    let next2 = end_tick(second, begun2, due2, closing::asks(due1), readings2);
     TwoStepped::Offsets(
         begun1.offset,
         begun2.offset,
@@ -199,14 +177,10 @@ impl TwoAxisProbe {
         if number != 0 {
             return TwoStepped::Refused(number);
         }
-        let status1 = first.status;
-        let clock1 = rules::clock_of(status1);
-        let Clock::At(elapsed1) = clock1 else {
+        let Some(elapsed1) = first.status.clock() else {
             return TwoStepped::Ended;
         };
-        let status2 = second.status;
-        let clock2 = rules::clock_of(status2);
-        let Clock::At(elapsed2) = clock2 else {
+        let Some(elapsed2) = second.status.clock() else {
             return TwoStepped::Ended;
         };
         tick(

@@ -110,12 +110,10 @@ fn run(config: IdentifyConfig, calls: &[u8], output: &mut [u8])
         calls,
         output,
     );
-    let first = last.first;
-    let second = last.second;
     two_axis_report::write_two(
         output,
-        probe_report::report_of(first, &rates1, &held1),
-        probe_report::report_of(second, &rates2, &held2),
+        probe_report::report_of(last.first, &rates1, &held1),
+        probe_report::report_of(last.second, &rates2, &held2),
     );
 }
 

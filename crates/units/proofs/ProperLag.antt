@@ -8,7 +8,7 @@ use native.Mathlib.Omega.{arith}
 use borrow.Author.Tests.{ltb-true, ltb-false, eqb-false, eq-eqb, le-ltb}
 use lib.Dec.{T, ltb, eqb, eqb-suc-zero}
 use lib.IntN.{ℤ, pos}
-use lib.Ieee.{Float, nan, inf, fin, binary32, up, down, of_bits, neg, div, lt, le, eq, ne, fits}
+use lib.Ieee.{Float, nan, inf, fin, binary32, up, down, of_bits, neg, div, lt, le, eq, ne, fits, is_nan}
 use lib.Ieee.Positive.{positive}
 use Rattle.float.specs.Values.{zero32, one32}
 use Rattle.float.specs.Log.{log_of}
@@ -76,6 +76,22 @@ proper (fin false m e) p = record {
   a_number = rw (eq-eqb (m * up e * down e) (m * up e * down e) refl) refl;
   not_below = subst (λ (z : Float). lt (fin false m e) z ≡ false) (sym zero_is) (le-ltb (m * up e * 1) (0 * down e) (omega arith));
 }
+
+nan_test : (x : Float) → ne x x ≡ is_nan x
+unfolding ne eq is_nan
+nan_test nan = refl
+nan_test (inf true) = refl
+nan_test (inf false) = refl
+nan_test (fin s m e) = go s
+  where
+    go : (s : Bool) → ne (fin s m e) (fin s m e) ≡ false
+    go true = rw (eq-eqb (m * up e * down e) (m * up e * down e) refl) refl
+    go false = rw (eq-eqb (m * up e * down e) (m * up e * down e) refl) refl
+
+-- the definition by the one test of the code
+pub tested : (effect dt pole : Float) (n b : Bool) → n ≡ is_nan pole → (le one32 pole || n) ≡ b → unless b (lag_of dt pole) (accel_of effect dt pole) ≡ units_at effect dt pole
+unfolding units_at
+tested effect dt pole n b e t = rw (nan_test pole, ← e, t) refl
 
 pub proper_lag : (effect dt pole : Float) → T (positive dt) → T (fits binary32 pole) → ProperLag (units_at effect dt pole)
 unfolding units_at

@@ -13,14 +13,8 @@ pub struct Plain {
     pub accel_radps2: f32,
 }
 
-// Both, or neither.
-#[derive(Clone, Copy)]
-pub enum PlainUnits {
-    Nothing,
-    Both(Plain),
-}
-
 // The moments' total weight.
+#[tactic(auto, unfolding(crate::specs::Units::effect_of))]
 pub fn moment_effect(m0: f32, m1: f32, m2: f32) -> f32
     ensures { result ≡ effect_of m0 m1 m2 }
 {
@@ -28,6 +22,7 @@ pub fn moment_effect(m0: f32, m1: f32, m2: f32) -> f32
 }
 
 // The time constant of a pole below 1 at ticks of dt_s; 0 where the pole is not above 0.
+#[tactic(auto, unfolding(crate::specs::Units::lag_of))]
 fn lag(dt_s: f32, pole: f32) -> f32
     ensures { result ≡ lag_of dt_s pole }
 {
@@ -37,6 +32,7 @@ fn lag(dt_s: f32, pole: f32) -> f32
     0.0
 }
 
+#[tactic(auto, unfolding(crate::specs::Units::accel_of))]
 fn acceleration(effect: f32, dt_s: f32, pole: f32) -> f32
     ensures { result ≡ accel_of effect dt_s pole }
 {
@@ -45,24 +41,23 @@ fn acceleration(effect: f32, dt_s: f32, pole: f32) -> f32
 
 // Lag and acceleration of a moment effect, a tick and a pole; neither where the pole is 1 or more, or NaN.
 // Where dt_s is positive and finite the lag is neither negative nor NaN.
-pub fn units_at(effect: f32, dt_s: f32, pole: f32) -> PlainUnits
+#[tactic(auto, using(crate::proofs::ProperLag::proper_lag), unfolding(crate::specs::Units::units_at))]
+pub fn units_at(effect: f32, dt_s: f32, pole: f32) -> Option<Plain>
     ensures units { result ≡ units_at effect dt_s pole }
     ensures lag { T (positive dt_s) → ProperLag result }
 {
-    if pole >= 1.0 {
-        return PlainUnits::Nothing;
+    if (pole >= 1.0) | pole.is_nan() {
+        return None;
     }
-    if pole != pole {
-        return PlainUnits::Nothing;
-    }
-    PlainUnits::Both(Plain {
+    Some(Plain {
         lag_s: lag(dt_s, pole),
         accel_radps2: acceleration(effect, dt_s, pole),
     })
 }
 
 // Lag and acceleration of a model. Its pole is minus the second rate weight.
-pub fn plain_units(model: RateModel) -> PlainUnits
+#[tactic(auto, unfolding(crate::specs::Units::units_of))]
+pub fn plain_units(model: RateModel) -> Option<Plain>
     ensures units { result ≡ units_of model }
     ensures lag { T (positive model.dt_s) → ProperLag result }
 {

@@ -4,16 +4,12 @@
 
 use std::io;
 use vectors::{part, replay};
-use wire::read_word;
 
 // Whether a report's units are the three words that follow it.
 fn agrees(s: &[u8]) -> bool {
     let mut output = [0u8; 12];
     let answered = byte_units::byte_units(part(s, 0, 36), &mut output);
-    (answered == 0)
-        & (read_word(&output, 0) == read_word(s, 36))
-        & (read_word(&output, 4) == read_word(s, 40))
-        & (read_word(&output, 8) == read_word(s, 44))
+    answered == 0 && output.as_slice() == part(s, 36, 12)
 }
 
 fn main(rt: HostRuntime) -> io::Result<()> {

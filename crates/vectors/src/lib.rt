@@ -6,8 +6,8 @@ ghost use Rattle.std.specs.Prelude.{◌≡◌, ◌+◌, ◌-◌, ◌≤◌, leng
 ghost use Rattle.std.specs.Float.{binary32, binary64};
 ghost use Rattle.std.specs.Fn.{FnReturnsAt};
 ghost use Rattle.wire.specs.Words.{word_at};
-ghost use Rattle.vectors.specs.Words.{flag_of, double_bits_at};
-ghost use Rattle.vectors.specs.Records.{started, torn_of, next_of, Replays, line_of};
+ghost use Rattle.vectors.specs.Words.{double_bits_at};
+ghost use Rattle.vectors.specs.Records.{started, counted, next_of, Replays, line_of};
 
 use std::io::Read;
 use std::rt::Files;
@@ -22,51 +22,28 @@ pub fn is_at(x: f32, s: &[u8], at: usize) -> bool
     float::to_word(x) == wire::read_word(s, at)
 }
 
-// The bits of the f64 at a place, the high word first; 0 where fewer than eight bytes are left.
+// The bits of the f64 at a place, the high word first; a byte past the end counts as 0.
+#[tactic(auto, unfolding(crate::specs::Words::double_bits_at))]
 fn double_bits_at(s: &[u8], at: usize) -> u64
     ensures { at + 8 ≤ length s.now → result ≡ double_bits_at s.now at }
 {
-    if s.len() < 8 {
-        return 0;
-    }
-    if s.len() - 8 < at {
-        return 0;
-    }
-    (wire::read_word(s, at) as u64) * 0x1_0000_0000 + (wire::read_word(s, at + 4) as u64)
-}
-
-// The f64 of a bit pattern; every NaN pattern gives NaN.
-fn double(bits: u64) -> f64
-    ensures { result ≡ from_bits binary64 bits }
-{
-    if 0x7ff0_0000_0000_0000 < bits % 0x8000_0000_0000_0000 {
-        return 0.0 / 0.0;
-    }
-    f64::from_bits(bits)
-}
-
-// The bit pattern of an f64; a NaN gives 7FF80000 00000000.
-fn double_bits(x: f64) -> u64
-    ensures { result ≡ to_bits binary64 x }
-{
-    if x != x {
-        return 0x7ff8_0000_0000_0000;
-    }
-    f64::to_bits(x)
+    let high = wire::read_word(s, at) as u64;
+    let low = wire::read_word(s, at.saturating_add(4)) as u64;
+    high * 0x1_0000_0000 + low
 }
 
 // The f64 at a place.
 pub fn double_at(s: &[u8], at: usize) -> f64
     ensures { at + 8 ≤ length s.now → result ≡ from_bits binary64 (double_bits_at s.now at) }
 {
-    double(double_bits_at(s, at))
+    std::num::f64_from_bits_with_nan(double_bits_at(s, at))
 }
 
 // Whether an f64 is the one at a place, bit for bit.
 pub fn double_is_at(x: f64, s: &[u8], at: usize) -> bool
     ensures { at + 8 ≤ length s.now → result ≡ (to_bits binary64 x == double_bits_at s.now at) }
 {
-    double_bits(x) == double_bits_at(s, at)
+    std::num::f64_to_bits_with_nan(x) == double_bits_at(s, at)
 }
 
 // ---- answers
@@ -78,72 +55,71 @@ pub fn same(a: f32, b: f32) -> bool
     float::to_word(a) == float::to_word(b)
 }
 
-// The word of a bool.
-pub fn flag(b: bool) -> u32
-    ensures { result ≡ flag_of b }
-{
-    if b { 1 } else { 0 }
-}
-
 // ---- the records of a file
 
 // So many bytes of a file are read. A file that has as many is not whole.
 const LIMIT: usize = 786_432;
 
-// A file as it is replayed: how many of its bytes are left, and how many of the records before them agree. A file is whole
-// where it has records, it has fewer bytes than the limit, and its last record has all of its bytes.
+// How many records are replayed, and how many of them agree, modulo 2^64.
 #[derive(Drop)]
-pub struct Records {
-    whole: bool,
-    pub left: usize,
+struct Counts {
     records: u64,
     agree: u64,
 }
 
+// A file as it is replayed: how many of its bytes are left, and the counts of the records before them. A file that is not whole
+// has no counts: one with no records, one that reaches the limit, or one whose last record does not have all of its bytes.
+#[derive(Drop)]
+pub struct Records {
+    pub left: usize,
+    counts: Option<Counts>,
+}
+
+impl Counts {
+    fn with(self, agreed: bool) -> Self
+        ensures { result ≡ counted agreed self }
+    {
+        Counts {
+            records: self.records.wrapping_add(1),
+            agree: self.agree.wrapping_add(u64::from(agreed)),
+        }
+    }
+}
+
 impl Records {
     // A file of some bytes, before its first record is replayed.
+    #[tactic(auto, unfolding(crate::specs::Records::started))]
     pub fn new(bytes: &[u8]) -> Self
         ensures { result ≡ started (length bytes.now) }
     {
         let left = bytes.len();
-        Records {
-            whole: (0 < left) & (left < LIMIT),
-            left,
-            records: 0,
-            agree: 0,
-        }
+        let counts = if 0 < left && left < LIMIT {
+            Some(Counts {
+                records: 0,
+                agree: 0,
+            })
+        } else {
+            None
+        };
+        Records { left, counts }
     }
 
-    // With the next record replayed, of `size` bytes. One that has no bytes, or more than are left, ends the replay.
-    // The counts are modulo 2^64.
+    // With the next record replayed, of `size` bytes. One that has no bytes, or more than are left, is torn: the file is not whole,
+    // and the replay ends.
+    #[tactic(auto, unfolding(crate::specs::Records::next_of))]
     pub fn with(self, size: usize, agreed: bool) -> Self
         ensures next { result ≡ next_of self size agreed }
         ensures less { result.left ≤ self.left - 1 }
     {
-        if size == 0 {
-            return self.torn();
-        }
-        if self.left < size {
-            return self.torn();
+        if size == 0 || self.left < size {
+            return Records {
+                left: 0,
+                counts: None,
+            };
         }
         Records {
-            whole: self.whole,
             left: self.left - size,
-            records: self.records.wrapping_add(1),
-            agree: self.agree.wrapping_add(flag(agreed) as u64),
-        }
-    }
-
-    // The next record does not have all of its bytes.
-    fn torn(self) -> Self
-        ensures torn { result ≡ torn_of self }
-        ensures ended { result.left ≡ 0 }
-    {
-        Records {
-            whole: false,
-            left: 0,
-            records: self.records,
-            agree: self.agree,
+            counts: self.counts.map(|counts| counts.with(agreed)),
         }
     }
 }
@@ -152,10 +128,7 @@ impl Records {
 pub fn rest(s: &[u8], n: usize) -> &[u8]
     ensures { result.now ≡ drop (length s.now - n) s.now }
 {
-    if s.len() < n {
-        return s;
-    }
-    &s[s.len() - n..]
+    &s[s.len().saturating_sub(n)..]
 }
 
 // Every record of a file's bytes is replayed, from the first on. `size` says how many bytes the record has that some bytes
@@ -195,15 +168,14 @@ impl fmt::Display for Line<'_> {
         let path = self.path;
         match &self.file {
             None => write!(f, "{name}: {path} is missing"),
-            Some(file) => {
-                let agree = file.agree;
-                let records = file.records;
-                if file.whole {
+            Some(file) => match &file.counts {
+                None => write!(f, "{name}: {path} is not whole"),
+                Some(counts) => {
+                    let agree = counts.agree;
+                    let records = counts.records;
                     write!(f, "{name}: {agree} of {records} agree")
-                } else {
-                    write!(f, "{name}: {path} is not whole")
                 }
-            }
+            },
         }
     }
 }
@@ -239,30 +211,10 @@ pub fn replay<R: Files + Print + Alloc, S: Fn(&[u8]) -> usize + Drop, A: Fn(&[u8
 
 // ---- parts of a record
 
-// The bytes from a place on; none past the end.
-fn after(s: &[u8], at: usize) -> &[u8]
-    ensures { result.now ≡ drop at s.now }
-{
-    if s.len() < at {
-        let end = s.len();
-        return &s[end..];
-    }
-    &s[at..]
-}
-
-// The first n bytes; all where there are fewer.
-fn first(s: &[u8], n: usize) -> &[u8]
-    ensures { result.now ≡ take n s.now }
-{
-    if s.len() < n {
-        return s;
-    }
-    &s[..n]
-}
-
 // The n bytes at a place; fewer where the slice ends before.
 pub fn part(s: &[u8], at: usize, n: usize) -> &[u8]
     ensures { result.now ≡ take n (drop at s.now) }
 {
-    first(after(s, at), n)
+    let rest = &s[at.min(s.len())..];
+    &rest[..n.min(rest.len())]
 }

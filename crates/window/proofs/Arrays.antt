@@ -1,5 +1,5 @@
 -- What is read and written in the lent arrays is what the list of samples says.
-use Prim.Native.Nat.{ℕ, zero, suc, ◌-◌, ◌≤◌, ◌<◌}
+use Prim.Native.Nat.{ℕ, zero, suc, ◌≤◌, ◌<◌}
 use mathlib.Core.Path.{◌≡◌, refl}
 use mathlib.Core.Bool.{Bool, true, false, cond}
 use mathlib.Core.List.{List, [], ◌∷◌, ◌++◌}
@@ -9,30 +9,12 @@ use lib.Dec.{ltb, ltb→lt, nltb→le}
 use lib.ListN.{length, take, set}
 use lib.Seq.{length-take-le, take-suc, take-suc-set}
 use lib.Ieee.{Float, nan, binary32, add}
-use Rattle.float.specs.Values.{zero32, finite}
+use Rattle.float.specs.Values.{zero32}
 use Rattle.float.specs.Series.{at}
 use Rattle.window.specs.declared.Window.{Window}
 use Rattle.window.specs.Samples.{Samples, capacity, last_of, push, hold, bad, store}
 use Rattle.window.specs.Arrays.{stored_of, samples_in, previous_at, hold_at, put_at, next_window}
 use Rattle.window.specs.Lent.{Lent, lent, Whole, samples_of, put_sample}
-
--- at place 0 there is no value before
-pub previous_first : (values : List Float) (n : ℕ) → n ≡ 0 → zero32 ≡ previous_at values n
-unfolding previous_at
-previous_first values n h = rw h
-
-pub previous_later : (values : List Float) (n : ℕ) → 0 < n → at values (n - 1) ≡ previous_at values n
-unfolding previous_at
-previous_later values zero h = absurd (omega arith)
-previous_later values (suc n) h = let one_less : suc n - 1 ≡ n = omega arith in rw one_less
-
-pub hold_finite : (values : List Float) (n : ℕ) (x : Float) → finite x ≡ true → x ≡ hold_at values n x
-unfolding hold_at
-hold_finite values n x h = rw h
-
-pub hold_bad : (values : List Float) (n : ℕ) (x : Float) → finite x ≡ false → previous_at values n ≡ hold_at values n x
-unfolding hold_at
-hold_bad values n x h = rw h
 
 -- ---- one tick stored
 module _ (w : Window) (dt : Float) where

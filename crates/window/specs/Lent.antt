@@ -3,6 +3,7 @@ use Rattle.std.specs.Prelude.{◌≡◌, Bool, List, length, Float}
 use Rattle.std.specs.Borrow.{MutBor}
 use denote.Triple.Both.{Both}
 use Rattle.window.specs.declared.Window.{Window}
+use Rattle.window.specs.declared.LentArrays.{LentArrays}
 use Rattle.window.specs.Samples.{Samples, capacity, bad}
 use Rattle.window.specs.Arrays.{stored_of, samples_in, hold_at, put_at}
 
@@ -31,6 +32,18 @@ at_entry rates moments offsets held = lent rates.entry.now moments.entry.now off
 
 abbrev pub at_exit : (rates moments offsets : Borrowed Float) → Borrowed Bool → Lent
 at_exit rates moments offsets held = lent rates.exit.now moments.exit.now offsets.exit.now held.exit.now
+
+-- what stands in the struct of the lent arrays
+abbrev pub arrays_in : LentArrays → Lent
+arrays_in a = lent a.rates.now a.moments.now a.offsets.now a.held.now
+
+-- what a call leaves in them is l, and they are the arrays that they were
+pub record Leaves (before after : LentArrays) (l : Lent) : Type 0 where
+  pub contents : arrays_in after ≡ l
+  pub rates : after.rates.ghost_name ≡ before.rates.ghost_name
+  pub moments : after.moments.ghost_name ≡ before.moments.ghost_name
+  pub offsets : after.offsets.ghost_name ≡ before.offsets.ghost_name
+  pub held : after.held.ghost_name ≡ before.held.ghost_name
 
 -- the samples of a window that stand in them
 abbrev pub samples_of : Window → Lent → Samples

@@ -1,11 +1,11 @@
 // The window of recorded ticks. Its samples stand in arrays that the caller lends; the rest is here, by value.
 #![tactic(auto)]
 
-ghost use Rattle.std.specs.Prelude.{◌≡◌, ◌<◌, length};
+ghost use Rattle.std.specs.Prelude.{◌≡◌, ◌<◌};
 ghost use Rattle.float.specs.Values.{zero32};
-ghost use Rattle.window.specs.Samples.{bad, capacity};
+ghost use Rattle.window.specs.Samples.{bad};
 ghost use Rattle.window.specs.Arrays.{stored_of, hold_at, next_window};
-ghost use Rattle.window.specs.Lent.{at_entry, at_exit, put_sample};
+ghost use Rattle.window.specs.Lent.{Leaves, arrays_in, put_sample};
 
 const CAPACITY: usize = 2048;
 
@@ -27,24 +27,34 @@ impl Window {
     }
 
     // The stored samples: never more than the arrays hold, whatever the struct says.
+    #[tactic(auto, unfolding(crate::specs::Arrays::stored_of))]
     pub fn stored(self) -> usize
         ensures { result ≡ stored_of self }
     {
-        let len = self.len;
-        if len < CAPACITY { len } else { CAPACITY }
+        self.len.min(CAPACITY)
     }
 }
 
-// An array is as long as its type says, which a reference to it does not tell the proofs. Taking it by value does; compiled, nothing is copied.
-pub fn whole_values(values: [f32; 2048])
-    ensures { length values ≡ capacity }
-{}
+// The arrays that a caller lends with a window: place k of each is sample k's.
+#[derive(Drop)]
+pub struct LentArrays<'a> {
+    pub rates: &'a mut [f32; 2048],
+    pub moments: &'a mut [f32; 2048],
+    pub offsets: &'a mut [f32; 2048],
+    pub held: &'a mut [bool; 2048],
+}
 
-pub fn whole_marks(marks: [bool; 2048])
-    ensures { length marks ≡ capacity }
-{}
+// A window as a fit on its recorded rates reads it.
+#[derive(Clone, Copy)]
+pub struct Readings<'a> {
+    pub window: Window,
+    pub rates: &'a [f32; 2048],
+    pub moments: &'a [f32; 2048],
+    pub held: &'a [bool; 2048],
+}
 
 // What is stored of a reading at a place: the one before it of its own kind where the reading is not finite, 0 at the first place.
+#[tactic(auto, unfolding(crate::specs::Arrays::hold_at, crate::specs::Arrays::previous_at))]
 fn held_value(value: f32, values: &[f32; 2048], index: usize) -> f32
     requires { index < 2048 }
     ensures { result ≡ hold_at values.now index value }
@@ -58,38 +68,38 @@ fn held_value(value: f32, values: &[f32; 2048], index: usize) -> f32
     values[index - 1]
 }
 
+#[tactic(auto, unfolding(crate::specs::Samples::bad))]
 fn is_bad(rate: f32, moment: f32) -> bool
     ensures { result ≡ bad rate moment }
 {
     !(float::is_finite(rate) & float::is_finite(moment))
 }
 
-// Stores one tick, if there is room.
-pub fn record_tick(
-    window: Window,
-    rates: &mut [f32; 2048],
-    moments: &mut [f32; 2048],
-    offsets: &mut [f32; 2048],
-    held: &mut [bool; 2048],
-    dt: f32,
-    rate: f32,
-    moment: f32,
-    offset: f32,
-) -> Window
-    ensures result { result ≡ next_window window dt }
-    ensures lent { at_exit rates moments offsets held ≡ put_sample window (at_entry rates moments offsets held) rate moment offset }
-{
-    let index = window.stored();
-    if index < CAPACITY {
-        rates[index] = held_value(rate, rates, index);
-        moments[index] = held_value(moment, moments, index);
-        offsets[index] = offset;
-        held[index] = is_bad(rate, moment);
-        Window {
-            len: index + 1,
-            duration_s: window.duration_s + dt,
+impl LentArrays<'_> {
+    // Stores one tick of a window, if there is room.
+    pub fn record_tick(
+        &mut self,
+        window: Window,
+        dt: f32,
+        rate: f32,
+        moment: f32,
+        offset: f32,
+    ) -> Window
+        ensures result { result ≡ next_window window dt }
+        ensures lent { Leaves self.old self.new (put_sample window (arrays_in self.old) rate moment offset) }
+    {
+        let index = window.stored();
+        if index < CAPACITY {
+            self.rates[index] = held_value(rate, self.rates, index);
+            self.moments[index] = held_value(moment, self.moments, index);
+            self.offsets[index] = offset;
+            self.held[index] = is_bad(rate, moment);
+            Window {
+                len: index + 1,
+                duration_s: window.duration_s + dt,
+            }
+        } else {
+            window
         }
-    } else {
-        window
     }
 }

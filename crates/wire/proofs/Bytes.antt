@@ -2,8 +2,9 @@
 use Prim.Native.Nat.{ℕ, zero, suc, ◌+◌, ◌*◌, ◌/◌, ◌%◌, ◌^◌}
 use mathlib.Core.Path.{◌≡◌, refl, sym, ap, ◌∙◌}
 use mathlib.Core.List.{List, [], ◌∷◌, ◌++◌, append_assoc, append-nil}
-use native.Mathlib.Nat.{zero-add, suc-add, add_comm, mul_comm, mul_assoc, mul-suc, pow-suc, one-le-pow, div-add-mod', div-div-eq-div-mul, mul-add-div_right, mul-add-mod_self_right}
+use native.Mathlib.Nat.{div-one, zero-add, suc-add, add_comm, mul_comm, mul_assoc, mul-suc, pow-suc, one-le-pow, div-add-mod', div-div-eq-div-mul, mul-add-div_right, mul-add-mod_self_right}
 use native.Mathlib.Omega.{arith}
+use Rattle.std.specs.Int.{w32, to_be_bytes, from_be_bytes}
 use lib.Dec.{lit<}
 use lib.ListN.{length, length-append}
 use lib.Pow.{pow-add}
@@ -18,6 +19,14 @@ pub length_words : (ws : List ℕ) → length (word_bytes ws) ≡ 4 * length ws
 unfolding word_bytes
 length_words [] = refl
 length_words (w ∷ ws) = rw (length-append, length_bytes, length_words ws, mul-suc 4) (omega arith)
+
+-- the library's bytes of a word, and its word of four bytes
+pub four_bytes : (w : ℕ) → bytes_of 4 w ≡ to_be_bytes w32 w
+unfolding bytes_of
+four_bytes w = rw div-one
+
+pub four_joined : (a b c d : ℕ) → from_be_bytes w32 (a ∷ b ∷ c ∷ d ∷ []) ≡ ((a * 256 + b) * 256 + c) * 256 + d
+four_joined a b c d = omega arith
 
 pub one_word : (w : ℕ) → word_bytes (w ∷ []) ≡ bytes_of 4 w
 unfolding word_bytes

@@ -1,28 +1,31 @@
 -- Bytes written over a list: how long it stays, when they fit, and how two writes beside each other are one.
-use Prim.Native.Nat.{ℕ, ◌+◌, ◌*◌, ◌/◌, ◌%◌, ◌≤◌, ◌<◌}
-use mathlib.Core.Path.{◌≡◌, refl, ◌∙◌}
+use Prim.Native.Nat.{ℕ, ◌+◌, ◌-◌, ◌*◌, ◌≤◌, ◌<◌}
+use mathlib.Core.Path.{◌≡◌, refl, sym, ◌∙◌}
 use mathlib.Core.Logic.{⊎_elim}
 use mathlib.Core.List.{List, [], ◌∷◌, ◌++◌, append_assoc, map, map-append}
-use native.Mathlib.Nat.{zero-add, add-zero, add_assoc, div-one}
-use native.Mathlib.Numerals.{add-one, add-two, add-three}
+use native.Mathlib.Nat.{zero-add, add-zero, add_assoc}
+use native.Mathlib.Numerals.{add-one}
 use native.Mathlib.Omega.{arith}
 use borrow.Author.Tests.{le-leb, lt-leb}
 use lib.Ieee.{Float}
-use lib.ListN.{length, get_or, take, drop, set, length-map, length-append, length-take, length-drop, take-append-drop}
-use lib.Seq.{sets-eq, take-suc, take_at, drop_at, take-append-le, drop-append-add, drop-drop, take-take}
+use borrow.Rule.Slice.PartMut.{put_mid}
+use Rattle.std.specs.Int.{w32, to_be_bytes}
+use lib.ListN.{length, get_or, take, drop, length-map, length-append, length-take, length-drop, take-append-drop}
+use lib.Seq.{take-suc, take_at, drop_at, take-append-le, drop-append-add, drop-drop, take-take}
 use Rattle.float.proofs.Digits.{lt_or_ge}
 use Rattle.wire.specs.Words.{bytes_of, word_bytes, word_of, written_at, written_within}
-use Rattle.wire.proofs.Bytes.{length_bytes, length_words, one_word, words_append}
+use Rattle.wire.proofs.Bytes.{four_bytes, length_bytes, length_words, one_word, words_append}
 
--- four stores beside each other
-four_written : (l : List ℕ) (i a b c d : ℕ) → i + 4 ≤ length l → set (set (set (set l i a) (i + 1) b) (i + 2) c) (i + 3) d ≡ written_at i (a ∷ b ∷ c ∷ d ∷ []) l
+-- elements copied over a part that is as long
+copied : (i k : ℕ) (xs l : List ℕ) → length xs ≡ k → put_mid i k l xs ≡ written_at i xs l
 unfolding written_at
-four_written l i a b c d h = rw (add-one i, add-two i, add-three i) (sets-eq (a ∷ b ∷ c ∷ d ∷ []) l i h ∙ append_assoc (take i l) (a ∷ b ∷ c ∷ d ∷ []) (drop (i + 4) l))
+copied i k xs l e = rw (drop-drop, e)
 
--- the four bytes of a word, stored one by one
-pub word_stored : (i w : ℕ) (l : List ℕ) → i + 4 ≤ length l → set (set (set (set l i (w / 0x100_0000 % 256)) (i + 1) (w / 0x1_0000 % 256)) (i + 2) (w / 0x100 % 256)) (i + 3) (w % 256) ≡ written_at i (bytes_of 4 w) l
-unfolding bytes_of
-word_stored i w l h = rw div-one (four_written l i (w / 0x100_0000 % 256) (w / 0x1_0000 % 256) (w / 0x100 % 256) (w % 256) h)
+-- the four bytes of a word
+pub word_copied : (i w : ℕ) (l xs : List ℕ) → xs ≡ to_be_bytes w32 w → put_mid i (i + 4 - i) l xs ≡ written_at i (bytes_of 4 w) l
+word_copied i w l xs e =
+    let four : i + 4 - i ≡ 4 = omega arith in
+    rw (four, e ∙ sym (four_bytes w)) (copied i 4 (bytes_of 4 w) l (length_bytes 4 w))
 
 pub length_written : (i : ℕ) (xs l : List ℕ) → i + length xs ≤ length l → length (written_at i xs l) ≡ length l
 unfolding written_at

@@ -2,56 +2,39 @@
 // four bytes that do not fit are not written.
 #![tactic(auto)]
 
-ghost use Rattle.std.specs.Prelude.{◌≡◌, ◌+◌, ◌*◌, ◌-◌, get_or};
+ghost use Rattle.std.specs.Prelude.{◌≡◌, ◌+◌, get_or};
 ghost use Rattle.wire.specs.Words.{bytes_of, word_of, word_at, float_at, written_within};
-
-// How many bytes of a slice of `len` stand from place `at` on.
-fn left(len: usize, at: usize) -> usize
-    ensures { result ≡ len - at }
-{
-    if at < len { len - at } else { 0 }
-}
 
 // The byte `k` places after `at`; 0 past the end.
 fn byte(bytes: &[u8], at: usize, k: usize) -> u8
     ensures { result ≡ get_or bytes.now (at + k) 0 }
 {
-    if k < left(bytes.len(), at) {
+    if k < bytes.len().saturating_sub(at) {
         return bytes[at + k];
     }
     0
-}
-
-// The word of four bytes, the most significant first.
-fn joined(a: u8, b: u8, c: u8, d: u8) -> u32
-    ensures { result ≡ ((a * 256 + b) * 256 + c) * 256 + d }
-{
-    (((a as u32) * 256 + (b as u32)) * 256 + (c as u32)) * 256 + (d as u32)
 }
 
 // The word at byte `at` of a slice that ends before the word does.
 fn torn_word(bytes: &[u8], at: usize) -> u32
     ensures { result ≡ word_at bytes.now at }
 {
-    joined(
+    u32::from_be_bytes([
         byte(bytes, at, 0),
         byte(bytes, at, 1),
         byte(bytes, at, 2),
         byte(bytes, at, 3),
-    )
+    ])
 }
 
 // The word at byte `at`; a byte past the end counts as 0. The first test does not depend on the place: a loop makes it once.
 pub fn read_word(bytes: &[u8], at: usize) -> u32
     ensures { result ≡ word_at bytes.now at }
 {
-    if bytes.len() < 4 {
+    if bytes.len() < 4 || bytes.len() - 4 < at {
         return torn_word(bytes, at);
     }
-    if bytes.len() - 4 < at {
-        return torn_word(bytes, at);
-    }
-    joined(bytes[at], bytes[at + 1], bytes[at + 2], bytes[at + 3])
+    u32::from_be_bytes([bytes[at], bytes[at + 1], bytes[at + 2], bytes[at + 3]])
 }
 
 // The float at byte `at`; every NaN pattern gives NaN.
@@ -65,16 +48,10 @@ pub fn read_float(bytes: &[u8], at: usize) -> f32
 pub fn write_word(out: &mut [u8], at: usize, word: u32)
     ensures { out.new ≡ written_within at (bytes_of 4 word) out.old }
 {
-    if out.len() < 4 {
+    if out.len() < 4 || out.len() - 4 < at {
         return;
     }
-    if out.len() - 4 < at {
-        return;
-    }
-    out[at] = (word / 0x100_0000 % 256) as u8;
-    out[at + 1] = (word / 0x1_0000 % 256) as u8;
-    out[at + 2] = (word / 0x100 % 256) as u8;
-    out[at + 3] = (word % 256) as u8;
+    out[at..at + 4].copy_from_slice(&word.to_be_bytes());
 }
 
 // The float's bytes from byte `at` on, as its word's; a NaN is written as 7FC00000.

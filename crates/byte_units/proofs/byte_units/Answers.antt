@@ -4,13 +4,14 @@ use mathlib.Core.List.{List}
 use Prim.Native.Nat.{ℕ}
 use native.Mathlib.Omega.{arith}
 use Rattle.wire.specs.Words.{word_bytes, Ran}
-use Rattle.units.specs.declared.PlainUnits.{PlainUnits}
+use Rattle.std.specs.Prelude.{Option}
+use Rattle.units.specs.declared.Plain.{Plain}
 use Rattle.byte_units.specs.ByteUnits.{report_units, unit_words}
 use Rattle.byte_units.proofs.Reported.{reported}
 use Rattle.byte_units.proofs.Answers.{output_size, units_written, when_sized, when_not, not_a_report}
 use Rattle.byte_units.proofs.byte_units.Goals as goal
 
-words : PlainUnits → List ℕ
+words : Option Plain → List ℕ
 words u = word_bytes (unit_words u)
 
 pub write_units-requires : goal.write_units-requires

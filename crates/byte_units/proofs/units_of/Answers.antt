@@ -5,7 +5,7 @@ use mathlib.Core.List.{List}
 use Prim.Native.Nat.{ℕ}
 use lib.Ieee.{neg}
 use Rattle.wire.specs.Words.{float_at}
-use Rattle.units.specs.declared.PlainUnits.TheVariants.{Nothing}
+use Rattle.std.specs.Prelude.{None}
 use Rattle.units.specs.Units.{effect_of, units_at}
 use Rattle.byte_units.specs.ByteUnits.{is_done, report_units}
 use Rattle.byte_units.proofs.units_of.Goals as goal
@@ -14,7 +14,7 @@ done : (l : List ℕ) → is_done l ≡ true → units_at (effect_of (float_at l
 unfolding report_units
 done l e = rw e
 
-not_done : (l : List ℕ) → is_done l ≡ false → Nothing ≡ report_units l
+not_done : (l : List ℕ) → is_done l ≡ false → None ≡ report_units l
 unfolding report_units
 not_done l e = rw e
 

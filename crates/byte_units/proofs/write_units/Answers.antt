@@ -2,10 +2,10 @@
 use Rattle.byte_units.specs.ByteUnits.{unit_words}
 use Rattle.byte_units.proofs.write_units.Goals as goal
 
-pub returns-in-Nothing : goal.returns-in-Nothing
+pub returns-in-None : goal.returns-in-None
 unfolding unit_words
-returns-in-Nothing c = rw c.in-Nothing.is c.write_words.ensures
+returns-in-None c = rw c.in-None.is c.write_words.ensures
 
-pub returns-in-Both : goal.returns-in-Both
+pub returns-in-Some : goal.returns-in-Some
 unfolding unit_words
-returns-in-Both c = rw (c.in-Both.is, ← c.to_word.ensures, ← c.to_word-in-Both.ensures) c.write_words-in-Both.ensures
+returns-in-Some c = rw (c.in-Some.is, ← c.to_word.ensures, ← c.to_word-in-Some.ensures) c.write_words-in-Some.ensures

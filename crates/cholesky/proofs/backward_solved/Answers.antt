@@ -1,17 +1,21 @@
+use Prim.Native.Nat.{◌-◌, suc}
 use mathlib.Core.Path.{◌≡◌, refl}
 use native.Mathlib.Omega.{arith}
-use native.Mathlib.Numerals.{add-one}
 use Rattle.cholesky.specs.Cholesky.{fill_down, backward}
 use Rattle.cholesky.proofs.backward_solved.Goals as goal
 
-pub loop-n-init : goal.loop-n-init
+pub loop-i-init : goal.loop-i-init
 unfolding fill_down
-loop-n-init c = (omega arith, refl)
+loop-i-init c = refl
 
-pub loop-n-preserved : goal.loop-n-preserved
+pub loop-i-preserved : goal.loop-i-preserved
 unfolding fill_down
-loop-n-preserved c = let l = c.loop-n in (omega arith, rw (add-one l.n, ← l.invariant.1, ← c.backward_entry.ensures))
+loop-i-preserved c =
+    let l = c.loop-i in
+    let n : 6 - (l.i - 1) ≡ suc (6 - l.i) = omega arith in
+    let i : 5 - (6 - l.i) ≡ l.i - 1 = omega arith in
+    rw n (rw (i, ← l.invariant, ← c.backward_entry.ensures))
 
 pub returns : goal.returns
 unfolding backward
-returns c = let e : c.loop-n.n ≡ 6 = omega arith in rw e at c.loop-n.invariant.1
+returns c = let e : c.loop-i.i ≡ 0 = omega arith in rw e at c.loop-i.invariant

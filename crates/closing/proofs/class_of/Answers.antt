@@ -4,4 +4,4 @@ use Rattle.closing.proofs.class_of.Goals as goal
 
 pub returns : goal.returns
 unfolding samples_in
-returns c = λ offsets. rw (c.classify.ensures, c.stored.ensures)
+returns c = λ offsets. c.classify.ensures

@@ -4,14 +4,16 @@ use mathlib.Core.Bool.{false}
 use Rattle.closing.proofs.Closing.{ahead, over}
 use Rattle.closing.proofs.close.Goals as goal
 
-pub returns-then-now_s-end_s : goal.returns-then-now_s-end_s
-returns-then-now_s-end_s c =
+pub returns-then-tick : goal.returns-then-tick
+returns-then-tick c =
     λ offsets.
-    let a = c.args in
-    c.goes_on.ensures ∙ ahead a.now_s a.end_s a.noisy a.sweep a.window a.rates.now a.moments.now offsets a.held.now false c.if-now_s-end_s.true
+    let t = c.args.tick in
+    let r = c.args.readings in
+    c.goes_on.ensures ∙ ahead t.now_s t.end_s t.noisy t.sweep r.window r.rates.now r.moments.now offsets r.held.now false c.if-tick.true
 
 pub returns : goal.returns
 returns c =
     λ offsets.
-    let a = c.args in
-    rw (c.end_by.ensures, c.class_of.ensures offsets) (over a.now_s a.end_s a.noisy a.sweep a.window a.rates.now a.moments.now offsets a.held.now false c.if-now_s-end_s.false)
+    let t = c.args.tick in
+    let r = c.args.readings in
+    rw (c.end_by.ensures, c.class_of-class.ensures offsets) (over t.now_s t.end_s t.noisy t.sweep r.window r.rates.now r.moments.now offsets r.held.now false c.if-tick.false)

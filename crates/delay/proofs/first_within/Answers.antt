@@ -1,20 +1,12 @@
-use mathlib.Core.Path.{◌≡◌, refl, sym, ◌∙◌}
-use native.Mathlib.Omega.{arith}
-use Rattle.delay.specs.Tie.{entry_count, residuals, first_from}
-use Rattle.delay.proofs.First.{found, passed}
+-- The first place that passes, counted from one, is the definition's position.
+use Rattle.std.proofs.Common.{rules, ◌+◌, ap, sym, ◌∙◌}
+use Rattle.std.specs.Option.{option_map}
+use Rattle.delay.proofs.First.{first}
 use Rattle.delay.proofs.first_within.Goals as goal
 
-pub loop-i-init : goal.loop-i-init
-loop-i-init c = (omega arith, refl)
-
-pub returns-then-is_within : goal.returns-then-is_within
-unfolding residuals
-returns-then-is_within c = sym (c.loop-i.invariant.1 ∙ found _ _ _ (omega arith) (cc))
-
-pub loop-i-preserved : goal.loop-i-preserved
-unfolding residuals
-loop-i-preserved c = (omega arith, c.loop-i.invariant.1 ∙ passed _ _ _ (omega arith) (cc))
+pub returns-in_err-place : goal.returns-in_err-place
+returns-in_err-place c =
+    c.from_residual.ensures ∙ sym (ap (option_map (λ k. k + 1)) (sym c.place_within.ensures ∙ c.in_err-place.was)) ∙ first _ _ _ _ (search rules)
 
 pub returns : goal.returns
-unfolding first_from
-returns c = let e : c.loop-i.i ≡ entry_count = omega arith in sym (rw e at c.loop-i.invariant.1)
+returns c = sym (ap (option_map (λ k. k + 1)) (sym c.place_within.ensures ∙ c.in_ok-place.was)) ∙ first _ _ _ _ (search rules)

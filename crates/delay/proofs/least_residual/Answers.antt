@@ -1,16 +1,15 @@
-use mathlib.Core.Path.{◌≡◌, refl}
-use native.Mathlib.Omega.{arith}
+use Rattle.std.proofs.Common.{◌≡◌, refl, arith}
 use native.Mathlib.Numerals.{add-one}
-use Rattle.delay.specs.Tie.{entry_count, residuals, least_to}
+use Rattle.delay.specs.Tie.{residuals, least_to, entry_count}
 use Rattle.delay.proofs.least_residual.Goals as goal
 
-pub loop-i-init : goal.loop-i-init
+pub loop-entry-init : goal.loop-entry-init
 unfolding least_to
-loop-i-init c = (omega arith, refl)
+loop-entry-init c = refl
 
-pub loop-i-preserved : goal.loop-i-preserved
+pub loop-entry-preserved : goal.loop-entry-preserved
 unfolding least_to residuals
-loop-i-preserved c = (omega arith, rw add-one (cc))
+loop-entry-preserved c = rw add-one (cc)
 
 pub returns : goal.returns
-returns c = let e : c.loop-i.i ≡ entry_count = omega arith in rw e at c.loop-i.invariant.1
+returns c = let e : c.loop-entry.entry-index ≡ entry_count = omega arith in rw e at c.loop-entry.invariant

@@ -7,25 +7,25 @@ use Rattle.delay_sums.proofs.delay_sums.Goals as goal
 
 pub loop-n-init : goal.loop-n-init
 unfolding fill
-loop-n-init c = (omega arith, refl)
+loop-n-init c = refl
 
 pub loop-n-preserved : goal.loop-n-preserved
 unfolding fill
 loop-n-preserved c =
     let l = c.loop-n in
     let e = rw (c.place.ensures.0, c.place-in-loop-n.ensures.0) at c.cross.ensures in
-    (omega arith, rw (add-one l.n) (rw (← l.invariant.1, ← e)))
+    rw (add-one l.n) (rw (← l.invariant, ← e))
 
 pub loop-i-init : goal.loop-i-init
 unfolding fill
-loop-i-init c = (omega arith, refl)
+loop-i-init c = refl
 
 pub loop-i-preserved : goal.loop-i-preserved
 unfolding fill
 loop-i-preserved c =
     let l = c.loop-i in
     let e = rw c.place-in-loop-i.ensures.0 at c.cross-in-loop-i.ensures in
-    (omega arith, rw (add-one l.i) (rw (← l.invariant.1, ← e)))
+    rw (add-one l.i) (rw (← l.invariant, ← e))
 
 pub returns : goal.returns
 unfolding delay_sums
@@ -34,4 +34,4 @@ returns c =
     let m = c.loop-i in
     let e : l.n ≡ 36 = omega arith in
     let f : m.i ≡ 6 = omega arith in
-    rw (← c.delay_within-delay.ensures, ← (rw e at l.invariant.1), ← (rw f at m.invariant.1), ← c.cross-2.ensures)
+    rw (← c.delay_within-delay.ensures, ← (rw e at l.invariant), ← (rw f at m.invariant), ← c.cross-2.ensures)

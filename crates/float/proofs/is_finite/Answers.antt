@@ -1,6 +1,6 @@
--- `float::is_finite` meets its contract: the finite values are those between the infinities.
-use Rattle.float.proofs.Values.{between}
+-- Finite, as the library says it, is `finite`: neither a NaN nor an infinity.
+use Rattle.float.proofs.Values.{finite_is}
 use Rattle.float.proofs.is_finite.Goals as goal
 
 pub returns : goal.returns
-returns c = between c.args.x
+returns c = rw finite_is c.is_finite.ensures.value

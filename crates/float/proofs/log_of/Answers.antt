@@ -1,14 +1,13 @@
 -- `float::log_of` meets its contract: `Counted` has what its digits and its top are, and `log_high` and `log_low` what each branch works out.
-use Rattle.std.proofs.Common.{ℕ, ◌^◌, ◌≤◌, T, pos, ap, ◌∙◌, arith, le→leb}
+use Rattle.std.proofs.Common.{ℕ, ◌+◌, ◌-◌, ◌^◌, ◌≤◌, T, pos, ap, ◌∙◌, arith, le→leb, lit<}
 use lib.Count.{leading_le}
-use lib.Ieee.{binary64, in_float}
+use lib.Ieee.{binary64, in_float, of_int}
 use Rattle.float.specs.Narrow.{narrowed}
-use Rattle.float.proofs.LogFields.{Counted, counted, log_high, log_low}
+use Rattle.float.proofs.Rounding.{zeros_of}
+use Rattle.float.proofs.WholeNumbers.{minus_i64, pred_i64}
+use Rattle.float.proofs.LogFields.{counted, log_high, log_low}
 use Rattle.float.proofs.log_of.Goals as goal
-use Rattle.float.proofs.log_of.Goals.{Start}
-
-known : (c : Start) → Counted c.args.m
-known c = counted c.args.m c.requires.0 c.requires.1
+use Rattle.float.proofs.log_of.Goals.{then-top-m, else-top-m}
 
 held : (n : ℕ) → n ≤ 2 ^ 53 → T (in_float binary64 (pos n))
 unfolding in_float
@@ -21,37 +20,22 @@ pub overflow_sub-digits : goal.overflow_sub-digits
 overflow_sub-digits c = leading_le 64 c.args.m
 
 pub overflow_shl-top : goal.overflow_shl-top
-overflow_shl-top c = omega (arith, (known (goal.at.overflow_shl-top c).Start).digits, (known (goal.at.overflow_shl-top c).Start).few)
+overflow_shl-top c = let k = counted c.args.m c.requires.0 c.requires.1 in omega arith
 
 pub overflow_mul-top : goal.overflow_mul-top
-overflow_mul-top c = omega (arith, (known (goal.at.overflow_mul-top c).Start).top, (known (goal.at.overflow_mul-top c).Start).under)
-
-pub int_to_float-m : goal.int_to_float-m
-int_to_float-m c = held c.args.m (omega (arith, c.requires.1))
+overflow_mul-top c = let k = counted c.args.m c.requires.0 c.requires.1 in omega arith
 
 pub int_to_float-top : goal.int_to_float-top
-int_to_float-top c = held _ (omega (arith, (known (goal.at.int_to_float-top c).Start).top, (known (goal.at.int_to_float-top c).Start).under))
-
-pub returns-then-top-m : goal.returns-then-top-m
-returns-then-top-m c =
-    let branch = c in
-    let a = branch.args in
-    c.narrow.ensures
-    ∙ ap narrowed
-    (c.log_from.ensures
-    ∙ log_high a.m a.e branch.requires.0 branch.requires.1 c.difference.result c.difference.ensures branch.if-top-m.true)
-
-pub int_to_float-m-2 : goal.int_to_float-m-2
-int_to_float-m-2 c = held _ (omega (arith, c.requires.1))
-
-pub int_to_float-top-2 : goal.int_to_float-top-2
-int_to_float-top-2 c = held _ (omega (arith, (known (goal.at.int_to_float-top-2 c).Start).top, (known (goal.at.int_to_float-top-2 c).Start).under))
+int_to_float-top c = held _ (let k = counted c.args.m c.requires.0 c.requires.1 in omega arith)
 
 pub returns : goal.returns
 returns c =
-    let branch = c in
-    let a = branch.args in
-    c.narrow-2.ensures
+    let a = c.args in
+    let k = a.e + (64 - zeros_of a.m) in
+    c.narrow.ensures
     ∙ ap narrowed
-    (c.log_from-2.ensures
-    ∙ log_low a.m a.e branch.requires.0 branch.requires.1 c.difference-2.result c.difference-2.ensures branch.if-top-m.false)
+    (c.log_from.ensures
+    ∙ elim c.if-top-m.branch [
+      | then-top-m w ↦ rw w.m-is (log_high a.m a.e c.requires.0 c.requires.1 _ (ap (of_int binary64) (minus_i64 k 149 (omega arith) (lit< tt))) w.if-top-m.true)
+      | else-top-m w ↦ rw w.m-is (log_low a.m a.e c.requires.0 c.requires.1 _ (ap (of_int binary64) (pred_i64 k 149 (omega arith) (lit< tt))) w.if-top-m.false)
+    ])

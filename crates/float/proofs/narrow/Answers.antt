@@ -1,8 +1,8 @@
 -- `float::narrow` meets its contract, a case for each of its returns: x is what its own bits say, and `NarrowFields` has what each exponent's field narrows to.
 use Rattle.std.proofs.Common.{◌≡◌, ◌/◌, ◌%◌, ◌^◌, not, T, leb, sym, ap, ◌∙◌, subst, inr, lit<, lit≤}
-use lib.Ieee.{Float, binary64, to_bits, of_fields, is_nan}
+use lib.Ieee.{Float, binary64, of_bits, to_bits, of_fields, is_nan}
 use Rattle.float.specs.Narrow.{narrowed}
-use Rattle.float.proofs.Nan.{nan_by_test, no_nan}
+use Rattle.float.proofs.Nan.{only_nan}
 use Rattle.float.proofs.Fields.{own}
 use Rattle.float.proofs.Pattern.{units_inf}
 use Rattle.float.proofs.NarrowFields.{narrowed_nan, narrow_subnormal, narrow_normal, narrow_infinite}
@@ -12,11 +12,9 @@ use Rattle.float.proofs.narrow.Goals.{Start}
 own_bits : (c : Start) → let b = to_bits binary64 c.args.x in c.args.x ≡ of_fields binary64 (leb (2 ^ 63) b) (b % 2 ^ 63 / 2 ^ 52) (b % 2 ^ 52)
 own_bits c = own binary64 c.args.x (subst T (sym c.well_formed.0.1) tt)
 
-pub returns-then-x : goal.returns-then-x
-returns-then-x c = c.not_a_number.ensures ∙ sym (ap narrowed (nan_by_test c.args.x c.if-x.true) ∙ narrowed_nan)
-
-pub float_to_bits-bits : goal.float_to_bits-bits
-float_to_bits-bits c = no_nan c.args.x c.if-x.false
+pub returns-then-is_nan : goal.returns-then-is_nan
+unfolding of_bits
+returns-then-is_nan c = sym (ap narrowed (only_nan c.args.x (sym c.is_nan.ensures.value ∙ c.if-is_nan.true)) ∙ narrowed_nan)
 
 pub packed-requires : goal.packed-requires
 packed-requires c = (lit≤ tt, lit< tt, inr (lit≤ tt))
@@ -30,7 +28,7 @@ returns-then-exponent-eq2047 c =
     c.packed.ensures
     ∙ units_inf s 0x80_0000 254 (lit≤ tt)
     ∙ sym (ap narrowed o
-    ∙ narrow_infinite s (b % 2 ^ 63 / 2 ^ 52) (b % 2 ^ 52) c.if-exponent-eq2047.true (subst (λ (v : Float). T (not (is_nan v))) o (no_nan x c.if-x.false)))
+    ∙ narrow_infinite s (b % 2 ^ 63 / 2 ^ 52) (b % 2 ^ 52) c.if-exponent-eq2047.true (subst (λ (v : Float). T (not (is_nan v))) o c.if-is_nan.ensures.not_nan))
 
 pub returns-then-exponent-eq0 : goal.returns-then-exponent-eq0
 returns-then-exponent-eq0 c =

@@ -8,14 +8,14 @@ pub float_from_bits-result : goal.float_from_bits-result
 float_from_bits-result c =
     let a = c.args in
     let h = c.requires in
-    let s = c.smaller-magnitude in
+    let s = c.min-magnitude in
     subst (λ (b : Bool). T (not b)) (sym (pattern_no_nan true a.q a.k s.result h.0 h.2 s.ensures)) tt
 
 pub returns-then-negative : goal.returns-then-negative
 returns-then-negative c =
     let a = c.args in
     let h = c.requires in
-    let s = c.smaller-magnitude in
+    let s = c.min-magnitude in
     pattern true a.q a.k s.result h.0 h.2 s.ensures
     ∙ ap (λ (b : Bool). units binary32 b a.q a.k) (sym c.if-negative.true)
 
@@ -23,7 +23,7 @@ pub float_from_bits-result-2 : goal.float_from_bits-result-2
 float_from_bits-result-2 c =
     let a = c.args in
     let h = c.requires in
-    let s = c.smaller-magnitude in
+    let s = c.min-magnitude in
     subst (λ (n : ℕ). T (not (nan_bits binary32 n))) (zero-add s.result)
     (subst (λ (b : Bool). T (not b)) (sym (pattern_no_nan false a.q a.k s.result h.0 h.2 s.ensures)) tt)
 
@@ -31,7 +31,7 @@ pub returns : goal.returns
 returns c =
     let a = c.args in
     let h = c.requires in
-    let s = c.smaller-magnitude in
+    let s = c.min-magnitude in
     ap (of_bits binary32) (sym (zero-add s.result))
     ∙ pattern false a.q a.k s.result h.0 h.2 s.ensures
     ∙ ap (λ (b : Bool). units binary32 b a.q a.k) (sym c.if-negative.false)

@@ -9,12 +9,12 @@ returns-in_default c = rw c.in_default.is refl
 
 pub returns-in_default-kept : goal.returns-in_default-kept
 unfolding keep_of
-returns-in_default-kept c = rw (c.in-Fit.is, c.in_default-kept.is) refl
+returns-in_default-kept c = rw (c.in-Some.is, c.in_default-kept.is, ← c.candidate-next.ensures) refl
 
-pub returns-then-residual-best : goal.returns-then-residual-best
+pub returns-then-fit-best : goal.returns-then-fit-best
 unfolding keep_of
-returns-then-residual-best c = rw (c.in-Fit.is, c.in-Best.is, c.if-residual-best.true) refl
+returns-then-fit-best c = rw (c.in-Some.is, c.in-Some-kept.is, ← c.candidate-next.ensures, c.if-fit-best.true) refl
 
-pub returns-else-residual-best : goal.returns-else-residual-best
+pub returns-else-fit-best : goal.returns-else-fit-best
 unfolding keep_of
-returns-else-residual-best c = rw (c.in-Fit.is, c.in-Best.is, c.if-residual-best.false) refl
+returns-else-fit-best c = rw (c.in-Some.is, c.in-Some-kept.is, ← c.candidate-next.ensures, c.if-fit-best.false) refl

@@ -9,11 +9,11 @@ use Rattle.grid.proofs.keep_each.Goals as goal
 
 pub loop-s-init : goal.loop-s-init
 unfolding fill
-loop-s-init c = (omega arith, refl)
+loop-s-init c = refl
 
 pub loop-s-preserved : goal.loop-s-preserved
 loop-s-preserved c =
-    let k = c.loop-s in (omega arith, fill_more _ _ _ k.s (k.s + 1) _ k.invariant.1 c.keep.ensures (add-one k.s))
+    let k = c.loop-s in fill_more _ _ _ k.s (k.s + 1) _ k.invariant c.keep.ensures (add-one k.s)
 
 pub returns : goal.returns
-returns c = let e : c.loop-s.s ≡ step_count = omega arith in rw e at c.loop-s.invariant.1
+returns c = let e : c.loop-s.s ≡ step_count = omega arith in rw e at c.loop-s.invariant

@@ -3,10 +3,10 @@ use Rattle.std.proofs.Common.{refl}
 use Rattle.integrated.specs.Integrated.{entry_of}
 use Rattle.integrated.proofs.entry.Goals as goal
 
-pub returns-in-Empty : goal.returns-in-Empty
+pub returns-in-None : goal.returns-in-None
 unfolding entry_of
-returns-in-Empty c = rw c.in-Empty.is refl
+returns-in-None c = rw c.in-None.is refl
 
-pub returns-in-Best : goal.returns-in-Best
+pub returns-in-Some : goal.returns-in-Some
 unfolding entry_of
-returns-in-Best c = rw c.in-Best.is refl
+returns-in-Some c = rw c.in-Some.is refl

@@ -10,5 +10,5 @@ pub returns : goal.returns
 returns c =
     let a = c.args in
     let h : a.n - first_tick ≤ length (replicate 2048 zero64) = rw length-replicate (omega (arith, c.requires)) in
-    let e = window_is a.rates.now a.moments.now a.dt_s _ a.n _ _ _ _ _ c.requires.1 h h (c.f32_to_f64_with_nan-carry.ensures ∙ c.carry.ensures) c.prepare-w.ensures in
+    let e = window_is a.rates.now a.moments.now a.dt_s _ a.n _ _ _ _ _ c.requires.1 h h (c.from-carry.ensures ∙ c.carry.ensures) c.prepare-shared.ensures in
     rw (← e) c.search.ensures

@@ -7,5 +7,5 @@ use Rattle.integrated.proofs.model.Goals as goal
 pub returns : goal.returns
 unfolding model_of
 returns c =
-    let a = c.args in let e : min a.position entry_count ≡ a.position = omega arith in
-    rw (c.from_integrated.ensures, e, c.older_share.ensures, c.newer_share.ensures) refl
+    let p = c.args.position.place in let e : min p entry_count ≡ p = omega arith in
+    rw (c.from_integrated.ensures, e, c.shares-newer.ensures.0, c.shares-newer.ensures.1, c.step.ensures) refl

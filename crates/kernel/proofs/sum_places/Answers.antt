@@ -13,8 +13,8 @@ use Rattle.kernel.proofs.sum_places.Goals as goal
 
 pub loop-b-init : goal.loop-b-init
 loop-b-init c =
-    let e : min 0 (c.args.n + 11) ≡ 0 = omega arith in
-    (omega arith, length-replicate 768 zero64, rw e (stand_begin c.args.poles (at c.args.moments.now)), begin _ _ _ _ _ _)
+    let e : min 0 (c.fitted-n.result + 11) ≡ 0 = omega arith in
+    (omega arith, length-replicate 768 zero64, rw e (stand_begin c.args.poles (at c.args.input.moments.now)), begin _ _ _ _ _ _)
 
 pub loop-d-init : goal.loop-d-init
 loop-d-init c = (omega arith, c.loop-b.invariant.3)
@@ -22,15 +22,15 @@ loop-d-init c = (omega arith, c.loop-b.invariant.3)
 pub loop-d-preserved : goal.loop-d-preserved
 loop-d-preserved c =
     let z : min c.loop-b.b last_block ≡ c.loop-b.b = omega arith in
-    let y : min (c.loop-b.b * block_ticks) (c.args.n + 11) ≡ c.loop-b.b * block_ticks = omega arith in
+    let y : min (c.loop-b.b * block_ticks) (c.fitted-n.result + 11) ≡ c.loop-b.b * block_ticks = omega arith in
     let block = rw z at c.lag_block-next.ensures in
     let stood = rw y at c.loop-b.invariant.2 in
     let lanes = lane_at _ _ _ _ _ _ _ _ stood block (rw c.loop-b.invariant.1 (omega arith)) in
-    (omega arith, turn _ _ _ _ _ _ _ _ _ _ c.lag_block-next.new.xs c.loop-d.invariant.1 (omega arith) lanes c.sum_block.ensures)
+    (omega arith, turn _ _ _ _ _ _ _ _ _ _ c.lag_block-next.new.xs c.loop-d.invariant.1 (omega arith) lanes (λ h p. rw c.fitted-n.ensures (c.sum_block.ensures h p)))
 
 pub loop-b-preserved : goal.loop-b-preserved
 loop-b-preserved c =
-    let b = c.loop-b.b in let n = c.args.n in
+    let b = c.loop-b.b in let n = c.fitted-n.result in
     let z : min b last_block ≡ b = omega arith in
     let y : min (b * block_ticks) (n + 11) ≡ b * block_ticks = omega arith in
     let block = rw z at c.lag_block-next.ensures in
@@ -45,4 +45,4 @@ loop-b-preserved c =
     )
 
 pub returns : goal.returns
-returns c = let k = c.loop-b in all _ _ _ _ _ _ _ _ k.invariant.3 (omega arith)
+returns c = let k = c.loop-b in rw (← c.fitted-n.ensures) (all _ _ _ _ _ _ _ _ k.invariant.3 (omega arith))

@@ -11,7 +11,7 @@ use Rattle.kernel.proofs.Blocks.{Places}
 use Rattle.kernel.proofs.sum_places.Given as goal
 
 abbrev pub invariant-loop-d : goal.invariant-loop-d
-invariant-loop-d l = (l.d ≤ whole_ticks) × Places l.poles l.cs l.ts l.carry (at l.moments) l.n l.tick l.d l.sums
+invariant-loop-d l = (l.d ≤ whole_ticks) × Places l.poles l.input.constants.now l.input.changes.now l.input.shared.carry (at l.input.moments.now) l.n l.tick l.d l.sum-items
 
 abbrev pub invariant-loop-b : goal.invariant-loop-b
-invariant-loop-b l = (l.b ≤ l.b-end) × (length l.xs ≡ 768) × Stand l.poles (at l.moments) (min (l.b * block_ticks) (l.n + 11)) l.lagged × Places l.poles l.cs l.ts l.carry (at l.moments) l.n (l.b * block_ticks) 0 l.sums
+invariant-loop-b l = (l.b ≤ l.b-end) × (length l.xs ≡ 768) × Stand l.poles (at l.input.moments.now) (min (l.b * block_ticks) (l.n + 11)) l.lagged × Places l.poles l.input.constants.now l.input.changes.now l.input.shared.carry (at l.input.moments.now) l.n (l.b * block_ticks) 0 l.sums

@@ -8,10 +8,10 @@ use Rattle.lags.proofs.pole.Goals as goal
 
 pub returns-then-place-eq0 : goal.returns-then-place-eq0
 unfolding pole_of
-returns-then-place-eq0 c = (rw (← c.listed-place.ensures, c.if-place-eq0.true) refl, table_ends)
+returns-then-place-eq0 c = (rw (← c.min-place.ensures, c.if-place-eq0.true) refl, table_ends)
 
 pub returns : goal.returns
 unfolding pole_of
 returns c =
-    let l = c.listed-place in let e : l.result ≡ suc (l.result - 1) = omega arith in
+    let l = c.min-place in let e : l.result ≡ suc (l.result - 1) = omega arith in
     (rw (← l.ensures, e) (cc), table_ends)

@@ -5,7 +5,7 @@ use Rattle.lanes.proofs.lag_block.Goals as goal
 pub loop-k-init : goal.loop-k-init
 loop-k-init c =
     let n : length c.args.lagged ≡ 3 = omega (arith, c.well_formed.1.1.0) in
-    (omega arith, begin _ _ _ _ _ n refl c.f32_to_f64_with_nan.ensures c.f32_to_f64_with_nan-2.ensures c.f32_to_f64_with_nan-3.ensures)
+    (omega arith, begin _ _ _ _ _ n refl c.from.ensures c.from-2.ensures c.from-3.ensures)
 
 pub loop-q-init : goal.loop-q-init
 loop-q-init c = (omega arith, λ from xs₁ t. t)
@@ -13,7 +13,7 @@ loop-q-init c = (omega arith, λ from xs₁ t. t)
 pub loop-q-preserved : goal.loop-q-preserved
 loop-q-preserved c =
     let h = c.loop-q.invariant in
-    (omega arith, λ from xs₁ t. rw (c.blend-in-loop-q.ensures, c.blend.ensures) (turn _ _ _ _ _ _ _ _ _ _ _ (h.1 from xs₁ t) (omega arith) c.lag_on-next.ensures c.f32_to_f64_with_nan-now.ensures))
+    (omega arith, λ from xs₁ t. rw (c.blend-in-loop-q.ensures, c.blend.ensures) (turn _ _ _ _ _ _ _ _ _ _ _ (h.1 from xs₁ t) (omega arith) c.lag_on-next.ensures c.from-now.ensures))
 
 pub loop-k-preserved : goal.loop-k-preserved
 loop-k-preserved c =
@@ -22,5 +22,5 @@ loop-k-preserved c =
 
 pub returns : goal.returns
 returns c =
-    let l = c.loop-k in let e : l.k ≡ c.at_most-n.result = omega arith in
-    let z = rw e at l.invariant.1 in rw (← c.at_most-n.ensures, ← c.at_most-first.ensures) (ended _ _ _ _ _ _ _ _ z)
+    let l = c.loop-k in let e : l.k ≡ c.min-n.result = omega arith in
+    let z = rw e at l.invariant.1 in rw (← c.min-n.ensures, ← c.min-first.ensures) (ended _ _ _ _ _ _ _ _ z)

@@ -13,16 +13,16 @@ use Rattle.marks.proofs.held_by.Goals as goal
 
 pub loop-k-init : goal.loop-k-init
 unfolding fill
-loop-k-init c = (omega arith, refl)
+loop-k-init c = refl
 
 pub loop-k-preserved : goal.loop-k-preserved
-loop-k-preserved c = (omega arith, fill_more _ _ _ c.loop-k.k (c.loop-k.k + 1) _ c.loop-k.invariant.1 refl (add-one c.loop-k.k))
+loop-k-preserved c = fill_more _ _ _ c.loop-k.k _ _ c.loop-k.invariant refl (add-one c.loop-k.k)
 
 pub returns : goal.returns
 returns c =
     let bytes = c.args.marks.now in
     let all : c.loop-k.k ≡ 2048 = omega arith in
-    let n = c.whole_bytes.ensures in
+    let n = c.told-marks in
     let g : ℕ → List Bool → Bool = λ j l. is_marked (get_or bytes j 0) in
     let same : fill g (replicate 2048 false) (length bytes) ≡ marks_by bytes = mapped is_marked 0 bytes g (replicate 2048 false) (length-replicate 2048 false ∙ sym n) (λ j p. refl) in
-    rw (c.loop-k.invariant.1, all) (rw n at same)
+    rw (c.loop-k.invariant, all) (rw n at same)

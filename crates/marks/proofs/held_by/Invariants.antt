@@ -1,5 +1,5 @@
 -- The loop's invariant: the first k marks are those of their bytes.
-use Prim.Native.Nat.{ℕ, ◌≤◌}
+use Prim.Native.Nat.{ℕ}
 use mathlib.Core.Path.{◌≡◌}
 use mathlib.Core.Bool.{Bool}
 use mathlib.Core.List.{List}
@@ -9,4 +9,4 @@ use Rattle.marks.specs.Marks.{is_marked}
 use Rattle.marks.proofs.held_by.Given as goal
 
 abbrev pub invariant-loop-k : goal.invariant-loop-k
-invariant-loop-k l = (l.k ≤ 2048) × (l.held ≡ fill (λ (j : ℕ) (_ : List Bool). is_marked (get_or l.marks j 0)) l.initial.held l.k)
+invariant-loop-k l = l.mark-items ≡ fill (λ (j : ℕ) (_ : List Bool). is_marked (get_or l.marks j 0)) l.initial.mark-items l.k

@@ -9,4 +9,4 @@ unfolding counts_to
 returns c moments offsets =
     let a = c.args in
     rw (c.once_ended.ensures, c.once_ended-2.ensures, c.stored.ensures, c.count_ticks-counts.ensures)
-    (sym (counted a.probe a.rates.now moments offsets a.held.now c.whole_values.ensures c.whole_marks.ensures))
+    (sym (counted a.probe a.rates.now moments offsets a.held.now c.told-rates c.told-held))

@@ -5,4 +5,4 @@ use Rattle.probe_writing.proofs.words_of.Goals as goal
 pub returns : goal.returns
 unfolding words_of
 returns c =
-    rw (c.flag.ensures, c.extension_flag.ensures, c.stored_word.ensures, c.kind.ensures, c.kept_delay-delay.ensures)
+    rw (c.flag.ensures, c.extension_flag.ensures, c.stored_word.ensures, c.kind.ensures, c.kept_delay.ensures)

@@ -1,18 +1,23 @@
-use mathlib.Core.Path.{◌≡◌, refl}
-use native.Mathlib.Omega.{arith}
-use native.Mathlib.Numerals.{add-one}
+-- A place past the fits has no entry, as a missing fit has none.
+use Rattle.std.proofs.Common.{rules, List, Option, ℕ, ◌+◌, ◌≡◌, ◌∙◌, None, refl, length, arith}
+use Rattle.std.proofs.lemmas.List.{get_or_past}
+use lib.ListN.{replicate, get_or}
 use Rattle.float.specs.Series.{fill}
-use Rattle.recorded.specs.Classify.{entries}
-use Rattle.float.proofs.Fill.{fill_more}
+use Rattle.float.proofs.Made.{made}
+use Rattle.least_squares.specs.declared.Solution.{Solution}
+use Rattle.recorded.specs.Classify.{entry_of, entries}
 use Rattle.recorded.proofs.entries.Goals as goal
 
-pub loop-k-init : goal.loop-k-init
-unfolding fill
-loop-k-init c = (omega arith, refl)
+module _ (fits : List (Option Solution)) (l : length fits ≡ 10) where
+  past : (k : ℕ) → get_or fits (10 + k) None ≡ None
+  past k = get_or_past fits (10 + k) None (omega arith)
 
-pub loop-k-preserved : goal.loop-k-preserved
-loop-k-preserved c = let l = c.loop-k in (omega arith, fill_more _ _ _ l.k _ _ l.invariant.1 c.entry.ensures (add-one l.k))
+  ten_of_twenty : fill (λ k l. entry_of (get_or fits k None)) (replicate 20 None) 20 ≡ entries (λ k. get_or fits k None)
+  unfolding entries entry_of fill
+  ten_of_twenty = rw (past 0, past 1, past 2, past 3, past 4, past 5, past 6, past 7, past 8, past 9) refl
 
 pub returns : goal.returns
-unfolding entries
-returns c = let e : c.loop-k.k ≡ 10 = omega arith in rw e at c.loop-k.invariant.1
+unfolding entry_of
+returns c =
+    made _ _ (λ k. entry_of (get_or c.args.fits k None)) (search rules) c.from_fn.result (replicate 20 None) 20 None refl c.from_fn.ensures.items
+    ∙ ten_of_twenty c.args.fits (search rules)

@@ -10,4 +10,4 @@ pub returns : goal.returns
 unfolding model_of
 returns c =
     let h : c.args.position ≤ entry_count = omega arith in
-    rw (c.from_recorded-delay.ensures, min-eq_left h)
+    rw (c.from_recorded.ensures, min-eq_left h)

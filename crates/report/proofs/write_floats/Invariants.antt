@@ -7,4 +7,4 @@ use Rattle.wire.specs.Words.{word_bytes, word_of, written_at}
 use Rattle.report.proofs.write_floats.Given as goal
 
 abbrev pub invariant-loop-k : goal.invariant-loop-k
-invariant-loop-k l = (l.k ≤ 6) × (l.out ≡ written_at l.at (word_bytes (map word_of (take l.k l.values))) l.initial.out)
+invariant-loop-k l = (l.k ≤ 6) × (l.out ≡ written_at l.at (word_bytes (map word_of (take l.k l.fn.values))) l.initial.out)

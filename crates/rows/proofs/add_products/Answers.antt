@@ -6,11 +6,11 @@ use Rattle.rows.proofs.add_products.Goals as goal
 
 pub loop-n-init : goal.loop-n-init
 unfolding each
-loop-n-init c = (omega arith, refl)
+loop-n-init c = refl
 
 pub loop-n-preserved : goal.loop-n-preserved
 unfolding product
-loop-n-preserved c = (omega arith, each_next _ _ _ c.loop-n.invariant.1)
+loop-n-preserved c = each_next _ _ _ c.loop-n.invariant
 
 pub returns : goal.returns
-returns c = let e : c.loop-n.n ≡ 36 = omega arith in rw e at c.loop-n.invariant.1
+returns c = let e : c.loop-n.n ≡ 36 = omega arith in rw e at c.loop-n.invariant

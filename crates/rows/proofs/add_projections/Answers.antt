@@ -6,11 +6,11 @@ use Rattle.rows.proofs.add_projections.Goals as goal
 
 pub loop-i-init : goal.loop-i-init
 unfolding each
-loop-i-init c = (omega arith, refl)
+loop-i-init c = refl
 
 pub loop-i-preserved : goal.loop-i-preserved
 unfolding projection
-loop-i-preserved c = (omega arith, each_next _ _ _ c.loop-i.invariant.1)
+loop-i-preserved c = each_next _ _ _ c.loop-i.invariant
 
 pub returns : goal.returns
-returns c = let e : c.loop-i.i ≡ 6 = omega arith in rw e at c.loop-i.invariant.1
+returns c = let e : c.loop-i.i ≡ 6 = omega arith in rw e at c.loop-i.invariant

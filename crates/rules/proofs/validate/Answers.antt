@@ -24,19 +24,19 @@ pub returns-then-is_bad_amplitude-2 : goal.returns-then-is_bad_amplitude-2
 returns-then-is_bad_amplitude-2 c =
     rule_4 c.args.config (sym c.is_bad_amplitude.ensures ∙ c.if-is_bad_amplitude.false)
     (sym c.is_bad_duration.ensures ∙ c.if-is_bad_duration.false) (sym c.is_bad_time.ensures ∙ c.if-is_bad_time.false)
-    c.in-Present.extension c.in-Present.is
+    c.in-Some.extension c.in-Some.is
     (sym c.is_bad_amplitude-2.ensures ∙ c.if-is_bad_amplitude-2.true)
 
 pub returns-then-is_bad_extension : goal.returns-then-is_bad_extension
 returns-then-is_bad_extension c =
     rule_5 c.args.config (sym c.is_bad_amplitude.ensures ∙ c.if-is_bad_amplitude.false)
     (sym c.is_bad_duration.ensures ∙ c.if-is_bad_duration.false) (sym c.is_bad_time.ensures ∙ c.if-is_bad_time.false)
-    c.in-Present.extension c.in-Present.is
+    c.in-Some.extension c.in-Some.is
     (sym c.is_bad_amplitude-2.ensures ∙ c.if-is_bad_amplitude-2.false) (sym c.is_bad_extension.ensures ∙ c.if-is_bad_extension.true)
 
 pub returns : goal.returns
 returns c =
     no_rule c.args.config (sym c.is_bad_amplitude.ensures ∙ c.if-is_bad_amplitude.false)
     (sym c.is_bad_duration.ensures ∙ c.if-is_bad_duration.false) (sym c.is_bad_time.ensures ∙ c.if-is_bad_time.false)
-    c.in-Present.extension c.in-Present.is
+    c.in-Some.extension c.in-Some.is
     (sym c.is_bad_amplitude-2.ensures ∙ c.if-is_bad_amplitude-2.false) (sym c.is_bad_extension.ensures ∙ c.if-is_bad_extension.false)

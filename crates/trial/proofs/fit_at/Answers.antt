@@ -4,4 +4,4 @@ use Rattle.gain.proofs.Window.{solved_is}
 use Rattle.trial.proofs.fit_at.Goals as goal
 
 pub returns : goal.returns
-returns c = c.solve.ensures ∙ solved_is _ _ _ _ c.args.w (rw c.fitted.ensures at c.step_sums-s.ensures)
+returns c = c.solve.ensures ∙ solved_is _ _ _ _ c.args.input.shared c.step_sums.ensures

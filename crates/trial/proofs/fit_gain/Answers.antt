@@ -11,4 +11,4 @@ pub returns : goal.returns
 returns c =
     let a = c.args in
     let h : min a.len 2048 - first_tick ≤ length (replicate 2048 zero64) = rw length-replicate (omega arith) in
-    c.fit_at.ensures ∙ fit_of_window a.carry (at a.moments.now) (at a.rates.now) _ _ _ _ _ _ (omega arith) h h c.prepare-w.ensures a.step a.pole
+    c.fit_at.ensures ∙ fit_of_window a.carry (at a.moments.now) (at a.rates.now) _ _ _ _ _ _ (omega arith) h h c.prepare-shared.ensures a.step a.pole

@@ -1,6 +1,0 @@
--- `float::is_nan_f64` meets its contract: the NaN is the one value that differs from itself.
-use Rattle.float.proofs.Nan.{differs}
-use Rattle.float.proofs.is_nan_f64.Goals as goal
-
-pub returns : goal.returns
-returns c = differs c.args.x
