@@ -36,7 +36,7 @@ rounds fit (suc n) low high best made =
 from_fits : (k : Option LagFit) (fit : Float → Option GainFit) (p : ℕ) (dt : Float) → (chosen_from k fit p dt).gain_fits ≤ 2604
 unfolding chosen_from no_model modelled refined
 from_fits None fit p dt = omega arith
-from_fits (Some b) fit p dt = omega (arith, rounds fit max_rounds b.low b.high b 0)
+from_fits (Some b) fit p dt = omega (arith, rounds fit max_rounds b.bracket.low b.bracket.high b 0)
 
 at_fits : (q : Option ℕ) (dt : Float) (fit : ℕ → Float → Option GainFit) → (chosen_at q dt fit).gain_fits ≤ 2604
 unfolding chosen_at no_model

@@ -11,7 +11,7 @@ use Rattle.account.specs.Account.{opened, account}
 use Rattle.account.specs.Claim.{account_delay}
 use Rattle.account.proofs.Theorem.{accounted}
 use Rattle.identify.specs.declared.IdentifyProbe.{IdentifyProbe}
-use Rattle.identify.specs.declared.Opened.TheVariants.{Probe, Refused}
+use Rattle.std.specs.Prelude.{Ok, Err}
 use Rattle.identify.specs.Seen.{fresh_probe, opened_by}
 use Rattle.byte_config.specs.ByteConfig.{config_of}
 use Rattle.report.specs.Report.{Tells, TellsFinite}
@@ -19,12 +19,12 @@ use Rattle.probe_report.proofs.Reported.{reported, told, finite_told}
 use Rattle.byte_run.specs.ByteRun.{calls_of, written, onto, sized, ran, run_if, byte_run, TellsDelay, TellsModel}
 
 module _ (c : IdentifyConfig) (calls : List Call) (output : List ℕ) where
-  turned_away : (b n : ℕ) → opened_by b c ≡ Refused n → ran b c calls output ≡ record { result = n; output = output }
+  turned_away : (b n : ℕ) → opened_by b c ≡ Err n → ran b c calls output ≡ record { result = n; output = output }
   unfolding opened_by ran
   turned_away zero n h = absurd (let z : ◌≡◌ {A = ℕ} 0 1 = cc in omega arith)
   turned_away (suc b) n h = let same : suc b ≡ n = cc in rw same
 
-  started : (b : ℕ) (p : IdentifyProbe) → opened_by b c ≡ Probe p → (p ≡ fresh_probe c) × (ran b c calls output ≡ record { result = 0; output = onto (written c calls) output })
+  started : (b : ℕ) (p : IdentifyProbe) → opened_by b c ≡ Ok p → (p ≡ fresh_probe c) × (ran b c calls output ≡ record { result = 0; output = onto (written c calls) output })
   unfolding opened_by ran
   started zero p h = (cc, refl)
   started (suc b) p h = absurd (let z : ◌≡◌ {A = ℕ} 0 1 = cc in omega arith)
@@ -39,12 +39,12 @@ module _ (config calls output : List ℕ) where
   unfolding byte_run run_if
   not_sized h = rw h
 
-  pub run_refused : (n : ℕ) → sized config calls output ≡ true → opened_by (broken (config_of config)) (config_of config) ≡ Refused n
+  pub run_refused : (n : ℕ) → sized config calls output ≡ true → opened_by (broken (config_of config)) (config_of config) ≡ Err n
       → byte_run config calls output ≡ record { result = n; output = output }
   unfolding byte_run run_if
   run_refused n h k = rw h (turned_away (config_of config) (calls_of calls) output (broken (config_of config)) n k)
 
-  pub run_started : (p : IdentifyProbe) → sized config calls output ≡ true → opened_by (broken (config_of config)) (config_of config) ≡ Probe p
+  pub run_started : (p : IdentifyProbe) → sized config calls output ≡ true → opened_by (broken (config_of config)) (config_of config) ≡ Ok p
       → (p ≡ fresh_probe (config_of config)) × (byte_run config calls output ≡ record { result = 0; output = onto (written (config_of config) (calls_of calls)) output })
   unfolding byte_run run_if
   run_started p h k = rw h (started (config_of config) (calls_of calls) output (broken (config_of config)) p k)

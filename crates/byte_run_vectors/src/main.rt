@@ -6,6 +6,7 @@
 
 mod flown;
 
+use rules::Rule;
 use std::io;
 use std::rt::Files;
 use vectors::{part, replay};
@@ -27,7 +28,7 @@ fn holds(output: &[u8], expected: &[u8]) -> bool {
 
 // Whether a run answers the result and writes the expected bytes and no others. `run` makes it, of a configuration, calls and an output.
 // w lengths of the configuration, the calls and the output; the configuration, the calls; w result; the output.
-fn agrees<R: Fn(&[u8], &[u8], &mut [u8]) -> u32>(run: &R, s: &[u8]) -> bool
+fn agrees<R: Fn(&[u8], &[u8], &mut [u8]) -> Result<(), Rule>>(run: &R, s: &[u8]) -> bool
     requires { R.IsAlwaysCallable run.now }
 {
     let mut output = [0u8; 65536];
@@ -46,7 +47,7 @@ fn agrees<R: Fn(&[u8], &[u8], &mut [u8]) -> u32>(run: &R, s: &[u8]) -> bool
         part(s, 12 + config, calls),
         &mut output[..expected.len()],
     );
-    (answered == read_word(s, end)) & holds(&output, expected)
+    (rules::number_or_0(answered) == read_word(s, end)) & holds(&output, expected)
 }
 
 // ---- files
@@ -56,7 +57,7 @@ fn record_size(s: &[u8]) -> usize {
 }
 
 // Replays a file of runs that `run` makes.
-fn replay_runs<P: Files + Print + Alloc, R: Fn(&[u8], &[u8], &mut [u8]) -> u32 + Drop>(
+fn replay_runs<P: Files + Print + Alloc, R: Fn(&[u8], &[u8], &mut [u8]) -> Result<(), Rule> + Drop>(
     rt: &P,
     name: &str,
     path: &str,

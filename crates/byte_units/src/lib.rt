@@ -1,10 +1,11 @@
 // The plain units of a report, as bytes.
 #![tactic(auto)]
 
-ghost use Rattle.std.specs.Prelude.{◌≡◌, [], ◌∷◌, ◌≤◌, length};
-ghost use Rattle.wire.specs.Words.{word_bytes, written_at};
+ghost use Rattle.std.specs.Prelude.{◌≡◌};
+ghost use Rattle.rules.specs.Numbers.{numbered};
 ghost use Rattle.byte_units.specs.ByteUnits.{is_done, sized, report_units, unit_words, byte_units, TellsUnits};
 
+use rules::Rule;
 use units::Plain;
 
 // Whether the report and the output have the sizes that rule 9 asks for.
@@ -16,13 +17,15 @@ fn is_sized(report: &[u8], output: &[u8]) -> bool
 }
 
 // Whether a report is that of a probe that is done.
+#[tactic(auto, unfolding(crate::specs::ByteUnits::is_done))]
 fn is_done(report: &[u8]) -> bool
     ensures { result ≡ is_done report.now }
 {
-    wire::read_word(report, 0) / 0x4000_0000 == 1
+    wire::read_word(report, 0) / 0x4000_0000 == report::DONE
 }
 
 // Lag and acceleration of the model in a report; neither where the probe is not done.
+#[tactic(auto, unfolding(crate::specs::ByteUnits::report_units))]
 fn units_of(report: &[u8]) -> Option<Plain>
     ensures { result ≡ report_units report.now }
 {
@@ -41,44 +44,31 @@ fn units_of(report: &[u8]) -> Option<Plain>
     None
 }
 
-fn write_words(output: &mut [u8], a: u32, b: u32, c: u32)
-    requires { 12 ≤ length output.old }
-    ensures { output.new ≡ written_at 0 (word_bytes (a ∷ b ∷ c ∷ [])) output.old }
-{
-    wire::write_word(output, 0, a);
-    wire::write_word(output, 4, b);
-    wire::write_word(output, 8, c);
-}
-
 // 1 and both floats, or three zeros.
-fn write_units(output: &mut [u8], units: Option<Plain>)
-    requires { 12 ≤ length output.old }
-    ensures { output.new ≡ written_at 0 (word_bytes (unit_words units)) output.old }
+#[tactic(auto, unfolding(crate::specs::ByteUnits::unit_words))]
+fn unit_words(units: Option<Plain>) -> [u32; 3]
+    ensures { result ≡ unit_words units }
 {
     match units {
-        None => {
-            write_words(output, 0, 0, 0);
-        }
-        Some(plain) => {
-            write_words(
-                output,
-                1,
-                float::to_word(plain.lag_s),
-                float::to_word(plain.accel_radps2),
-            );
-        }
+        None => [0; 3],
+        Some(plain) => [
+            1,
+            float::to_word(plain.lag_s),
+            float::to_word(plain.accel_radps2),
+        ],
     }
 }
 
-// The units of a report of 36 bytes to an output of 12. It answers 0, or 9 where a size is wrong; then no byte is written.
-pub fn byte_units(report: &[u8], output: &mut [u8]) -> u32
-    ensures result { result ≡ (byte_units report.now output.old).result }
+// The units of a report of 36 bytes to an output of 12. It is refused by 9 where a size is wrong; then no byte is written.
+#[tactic(auto, using(crate::proofs::Answers::not_a_report), unfolding(crate::specs::ByteUnits::byte_units, crate::specs::ByteUnits::units_if, rules::specs::Numbers::numbered, rules::specs::Numbers::number_of))]
+pub fn byte_units(report: &[u8], output: &mut [u8]) -> Result<(), Rule>
+    ensures result { numbered result ≡ (byte_units report.now output.old).result }
     ensures output { output.new ≡ (byte_units report.now output.old).output }
     ensures reported { TellsUnits report.now output.old output.new }
 {
-    if is_sized(report, output) {
-        write_units(output, units_of(report));
-        return 0;
+    if !is_sized(report, output) {
+        return Err(Rule::Form);
     }
-    9
+    wire::write_words(output, 0, &unit_words(units_of(report)));
+    Ok(())
 }

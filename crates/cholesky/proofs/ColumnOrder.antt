@@ -19,7 +19,7 @@ unfolding less_columns less_column
 other j m zero i c h = refl
 other j m (suc k) i c h = rw (ne_eqb c j h) (other j m k i c h)
 
-module _ (a : List Float) where
+module _ (a : List (List Float)) where
   -- a column that is not begun is the matrix's
   left : (j i c : ℕ) → j ≤ c → columns_done (entry_at a) j i c ≡ entry_at a i c
   unfolding columns_done rooted_column
@@ -94,8 +94,8 @@ module _ (a : List Float) where
   above_tested (suc n) h = let l : n ≤ 6 = omega arith in rw (above_tested n l, tested n h)
 
 -- what the two functions ensure
-pub in_order : (a l : List Float) → l ≡ factor a → Factored a l
+pub in_order : (a l : List (List Float)) → l ≡ factor a → Factored a l
 in_order a l e = record { by_entry = e; in_order = λ i j p g. rw e (sym (column_order a i j p g)) }
 
-pub tested_in_order : (a l : List Float) (ok : Bool) → ok ≡ above a l 6 → Tested a l ok
+pub tested_in_order : (a l : List (List Float)) (ok : Bool) → ok ≡ above a l 6 → Tested a l ok
 tested_in_order a l ok e = record { by_entry = e; in_order = λ f. e ∙ rw f (above_tested a 6 (omega arith)) }

@@ -1,2 +1,3 @@
+pub mod Folds
 pub mod Textbook
 pub mod ColumnOrder

@@ -39,11 +39,11 @@ tested_above a zero = true
 tested_above a (suc j) = tested_above a j && lt zero32 (tested_diagonal a j)
 
 -- l is L as the definition by entries has it, and at and below the diagonal it is what the columns in order leave
-pub record Factored (a l : List Float) : Type 0 where
+pub record Factored (a l : List (List Float)) : Type 0 where
   pub by_entry : l ≡ factor a
   pub in_order : (i j : ℕ) → i < 6 → j ≤ i → entry_at l i j ≡ columns_done (entry_at a) 6 i j
 
 -- ok says whether the diagonals are above 0 by L's entries, and, where l is L, by the columns in order
-pub record Tested (a l : List Float) (ok : Bool) : Type 0 where
+pub record Tested (a l : List (List Float)) (ok : Bool) : Type 0 where
   pub by_entry : ok ≡ above a l 6
   pub in_order : l ≡ factor a → ok ≡ tested_above (entry_at a) 6

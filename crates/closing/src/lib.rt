@@ -158,7 +158,9 @@ pub fn goes_on(tick: Tick) -> Ending
     ended_at(tick.end_s, tick.noisy, tick.sweep, running(tick.now_s))
 }
 
-// The class of a window.
+// The class of a window. A flight asks for it once or twice, so it stands apart from the ticks before it, as `end_by` does.
+#[cold]
+#[inline(never)]
 fn class_of(readings: Readings<'_>) -> Classified
     ensures { (offsets : List Float) → result ≡ class_of (samples_in readings.entry.window readings.entry.rates.now readings.entry.moments.now offsets readings.entry.held.now) }
 {
@@ -185,6 +187,8 @@ pub fn asks(due: Option<Classified>) -> bool
 }
 
 // The end of a tick whose window has this class.
+#[cold]
+#[inline(never)]
 #[tactic(auto, unfolding(crate::specs::Ending::ended_by, crate::specs::Ending::stands_by))]
 fn end_by(class: Classified, asked: bool, tick: Tick, readings: Readings<'_>) -> Ending
     ensures { result ≡ ended_by (takes asked class tick.noisy) class tick.now_s readings.entry.window tick.end_s tick.noisy tick.sweep readings.entry.rates.now readings.entry.moments.now }
@@ -213,6 +217,14 @@ pub fn close_due(due: Option<Classified>, asked: bool, tick: Tick, readings: Rea
     end_by(class, asked, tick, readings)
 }
 
+// The end of a tick of a probe that flies alone, whose end time is reached.
+pub fn close_over(tick: Tick, readings: Readings<'_>) -> Ending
+    ensures { (offsets : List Float) → lt tick.now_s tick.end_s ≡ false → result ≡ closed_by false tick.now_s tick.end_s tick.noisy tick.sweep (samples_in readings.entry.window readings.entry.rates.now readings.entry.moments.now offsets readings.entry.held.now) }
+{
+    let class = class_of(readings);
+    end_by(class, false, tick, readings)
+}
+
 // The end of a tick of a probe that flies alone.
 pub fn close(tick: Tick, readings: Readings<'_>) -> Ending
     ensures { (offsets : List Float) → result ≡ closed_by false tick.now_s tick.end_s tick.noisy tick.sweep (samples_in readings.entry.window readings.entry.rates.now readings.entry.moments.now offsets readings.entry.held.now) }
@@ -220,6 +232,5 @@ pub fn close(tick: Tick, readings: Readings<'_>) -> Ending
     if tick.now_s < tick.end_s {
         return goes_on(tick);
     }
-    let class = class_of(readings);
-    end_by(class, false, tick, readings)
+    close_over(tick, readings)
 }

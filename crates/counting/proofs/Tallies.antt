@@ -1,9 +1,13 @@
 -- A tally goes on tick by tick, and none of its counts is above the ticks.
-use Prim.Native.Nat.{ℕ, suc, ◌≤◌}
+use Prim.Native.Nat.{ℕ, suc, ◌+◌, ◌≤◌, ◌<◌}
 use mathlib.Core.Path.{◌≡◌, refl}
 use mathlib.Core.Bool.{Bool, true, false, cond}
 use mathlib.Core.List.{List}
+use native.Mathlib.Omega.{arith}
+use native.Mathlib.Numerals.{add-one}
 use lib.Dec.{leb}
+use lib.ListN.{length, take, get_or, length-take}
+use lib.Seq.{get_or-take}
 use Rattle.counting.specs.declared.Tally.{Tally}
 use Rattle.window.specs.Walk.{run, over, mark_at, is_held, is_warm, is_row}
 use Rattle.window.specs.Arrays.{many_to}
@@ -25,6 +29,10 @@ few marks n = record {
   run = run_at_most (mark_at marks) n;
 }
 
+pub no_ticks : (marks : List Bool) → record { counts = record { held = 0; warm = 0; rows = 0 }; run = 0 } ≡ tally_to marks 0
+unfolding tally_to counts_to many_to over run
+no_ticks marks = refl
+
 -- one more tick
 by_mark : (x b : Bool) (t : Tally) → leb 11 t.run ≡ b
     → tallied t x ≡ record {
@@ -40,6 +48,12 @@ by_mark true b t e = refl
 by_mark false true t e = rw e
 by_mark false false t e = rw e
 
-pub tally_next : (marks : List Bool) (n : ℕ) → tallied (tally_to marks n) (mark_at marks n) ≡ tally_to marks (suc n)
+tally_next : (marks : List Bool) (n : ℕ) → tallied (tally_to marks n) (mark_at marks n) ≡ tally_to marks (suc n)
 unfolding tally_to counts_to many_to over run
 tally_next marks n = by_mark (mark_at marks n) (leb 11 (tally_to marks n).run) (tally_to marks n) refl
+
+-- one more of the first n marks
+pub tally_more : (marks : List Bool) (n k : ℕ) → k < length (take n marks) → tallied (tally_to marks k) (get_or (take n marks) k false) ≡ tally_to marks (k + 1)
+tally_more marks n k h =
+    let inside : k < n = omega (arith, length-take {A = Bool}) in
+    rw (get_or-take n marks k false inside, add-one) (tally_next marks k)

@@ -104,6 +104,7 @@ fn is_within(bar: f32, residual: Option<f32>) -> bool
     residual.is_some_and(|r| r <= bar)
 }
 
+#[tactic(auto, unfolding(crate::specs::Tie::least_to, crate::specs::Tie::residuals))]
 fn least_residual(entries: [Option<Entry>; 20], all: bool) -> Option<f32>
     ensures { result ≡ least_to (residuals all entries) entry_count }
 {

@@ -1,4 +1,5 @@
 // The functions that the static library exports.
+// C takes a number for an answer, so each function here answers one.
 #![tactic(auto)]
 
 ghost use Rattle.std.specs.Prelude.{◌≡◌};
@@ -14,7 +15,7 @@ pub extern "C" fn identify_byte_run(config: &[u8], calls: &[u8], output: &mut [u
     ensures delay { TellsDelay config.now calls.now result output.new }
     ensures model { TellsModel result output.new }
 {
-    byte_run::byte_run(config, calls, output)
+    rules::number_or_0(byte_run::byte_run(config, calls, output))
 }
 
 // Lag and acceleration of a report of 36 bytes: a word 1 and both floats, or three words 0, to an output of 12 bytes.
@@ -25,5 +26,5 @@ pub extern "C" fn identify_plain_units(report: &[u8], output: &mut [u8]) -> u32
     ensures output { output.new ≡ (byte_units report.now output.old).output }
     ensures reported { TellsUnits report.now output.old output.new }
 {
-    byte_units::byte_units(report, output)
+    rules::number_or_0(byte_units::byte_units(report, output))
 }

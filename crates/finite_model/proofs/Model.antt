@@ -21,10 +21,10 @@ use Rattle.lags.specs.Lags.{lag_count, pole_of, carry_of}
 use Rattle.gain.specs.declared.GainFit.{GainFit}
 use Rattle.gain.specs.Gain.{first_tick, is_half, gain_of, trim_of, difference_of, varies, fit_if, is_sound, sound_fit, solved, fitted, gain_fit}
 use Rattle.grid.specs.declared.LagFit.{LagFit}
-use Rattle.grid.specs.Grid.{lag_fit, candidate, candidates, kept_at, low_end, high_end, pick_end, KeepsFirst}
+use Rattle.grid.specs.Grid.{lag_fit, candidate, candidates, better_of, pick_lag, bracket_of, kept_at, low_end, high_end, pick_end, KeepsFirst}
 use Rattle.grid.proofs.Keeps.{keeps_first}
 use Rattle.golden.specs.declared.Refined.{Refined}
-use Rattle.golden.specs.Golden.{golden, refined, tried, onward, pick_round, better_of, pick_lag, left_of, right_of, max_rounds, Round}
+use Rattle.golden.specs.Golden.{golden, refined, tried, onward, pick_round, left_of, right_of, max_rounds, Round}
 use Rattle.integrated.specs.Integrated.{model_of, modelled, no_model, chosen_from, chosen_at, searched, mean_dt, window_fit, fit_long, fit_integrated, newer_share, older_share, entries}
 use Rattle.finite_model.specs.FiniteModel.{FiniteF32, FiniteModel}
 use Rattle.finite_model.proofs.Multiples.{U, Of, own, held_of, counted, of_finite, add_plus, add_minus, neg_of, zero_held, NonNegative, Within, whole_within, mul_under}
@@ -69,12 +69,12 @@ gains carry u rate n s pole g e = solved_gain _ _ _ _ _ _ g e
 
 -- ---- a candidate whose pole lies in 0 to 1, with such a gain
 record Good (b : LagFit) : Type 0 where
-  pole : ZeroToOne b.pole
-  gain : FiniteF32 b.gain
+  pole : ZeroToOne b.bracket.pole
+  gain : FiniteF32 b.fit.gain
 
 better_good : (best kept : LagFit) → Good best → Good kept → Good (better_of best kept)
 unfolding better_of
-better_good best kept p q = go (lt kept.residual best.residual)
+better_good best kept p q = go (lt kept.fit.residual best.fit.residual)
   where
     go : (b : Bool) → Good (pick_lag b kept best)
     go true = q
@@ -113,12 +113,12 @@ golden_good fit g (suc n) low high best made l h p =
 -- ---- and so does the grid, with its brackets
 record Bracketed (b : LagFit) : Type 0 where
   good : Good b
-  low : ZeroToOne b.low
-  high : ZeroToOne b.high
+  low : ZeroToOne b.bracket.low
+  high : ZeroToOne b.bracket.high
 
 refined_good : (fit : Float → Option GainFit) (b : LagFit) → Gains fit → Bracketed b → Good (refined fit b).best
 unfolding refined
-refined_good fit b g p = golden_good fit g max_rounds b.low b.high b 0 p.low p.high p.good
+refined_good fit b g p = golden_good fit g max_rounds b.bracket.low b.bracket.high b 0 p.low p.high p.good
 
 module _ (dt : Float) (poles : (i : ℕ) → ZeroToOne (pole_of dt i)) where
   low_in : (i : ℕ) → ZeroToOne (low_end (pole_of dt) i)
@@ -136,10 +136,10 @@ module _ (dt : Float) (poles : (i : ℕ) → ZeroToOne (pole_of dt i)) where
   one_good : (fit : Float → Option GainFit) → Gains fit → (i : ℕ) (b : LagFit) → candidates (pole_of dt) lag_count fit i ≡ Some b → Bracketed b
   one_good fit g i b e = go (fit (pole_of dt i)) refl e
     where
-      go : (x : Option GainFit) → fit (pole_of dt i) ≡ x → candidate (pole_of dt i) (low_end (pole_of dt) i) (high_end (pole_of dt) lag_count i) x ≡ Some b → Bracketed b
+      go : (x : Option GainFit) → fit (pole_of dt i) ≡ x → candidate (bracket_of (pole_of dt) lag_count i) x ≡ Some b → Bracketed b
       go None f e = absurd (let z : ◌≡◌ {A = ℕ} 0 1 = cc in omega arith)
       go (Some k) f e =
-          let same : lag_fit (pole_of dt i) (low_end (pole_of dt) i) (high_end (pole_of dt) lag_count i) k ≡ b = cc in
+          let same : lag_fit (bracket_of (pole_of dt) lag_count i) k ≡ b = cc in
           subst Bracketed same (record { good = record { pole = poles i; gain = g (pole_of dt i) k f }; low = low_in i; high = high_in lag_count i })
 
   kept_good : (fit : ℕ → Float → Option GainFit) (s : ℕ) (b : LagFit) → Gains (fit s) → kept_at dt fit s ≡ Some b → Bracketed b
@@ -195,12 +195,13 @@ model_finite : (b : LagFit) (p : ℕ) (dt : Float) → Good b → FiniteF32 dt �
 unfolding model_of
 model_finite b p dt g t =
     let h = is_half (p - 1) in
-    let rest = one_less b.pole g.pole in
+    let pole = b.bracket.pole in let gain = b.fit.gain in
+    let rest = one_less pole g.pole in
     record {
-      r1 = one_more b.pole g.pole;
-      r2 = record { real = of_finite (neg b.pole) true g.pole.count (neg_of b.pole false g.pole.count g.pole.is); held = neg-fits binary32 b.pole g.pole.held };
-      m0 = weighed (newer_share h) b.gain (sub binary32 one32 b.pole) (newer_in h) g.gain rest;
-      m1 = weighed (older_share h) b.gain (sub binary32 one32 b.pole) (older_in h) g.gain rest;
+      r1 = one_more pole g.pole;
+      r2 = record { real = of_finite (neg pole) true g.pole.count (neg_of pole false g.pole.count g.pole.is); held = neg-fits binary32 pole g.pole.held };
+      m0 = weighed (newer_share h) gain (sub binary32 one32 pole) (newer_in h) g.gain rest;
+      m1 = weighed (older_share h) gain (sub binary32 one32 pole) (older_in h) g.gain rest;
       m2 = within_finite false 0 U zero32 zero_in;
       dt_s = t;
     }

@@ -1,5 +1,7 @@
 -- A list that is filled entry by entry: its length, an entry once it is set, an entry that is not reached yet, and one entry more.
-use Rattle.std.proofs.Common.{◌≡◌, ℕ, zero, suc, ◌+◌, ◌-◌, ◌<◌, ◌≤◌, List, length, get_or, set, refl, ap, ◌∙◌, arith, length-set, get_or-set_other, get_or-set_same}
+-- A list whose first entries alone are filled is that filling with the rest behind it.
+use Rattle.std.proofs.Common.{◌≡◌, ℕ, zero, suc, ◌+◌, ◌-◌, ◌<◌, ◌≤◌, List, ◌++◌, length, get_or, take, drop, set, refl, sym, ap, ◌∙◌, arith, length-set, length-take-le, get_or-set_other, get_or-set_same}
+use Rattle.std.proofs.lemmas.List.{set-append_left, take-append-drop}
 use Rattle.float.specs.Series.{fill}
 
 module _ {A : Type 0} (f : ℕ → List A → A) (l : List A) where
@@ -49,3 +51,15 @@ fill_same f g l zero h = refl
 fill_same f g l (suc n) h =
     let e = fill_same f g l n (λ j k p. h j k (omega arith)) in
     rw (e, h n (fill g l n) (omega arith)) refl
+
+module _ {A : Type 0} (f : ℕ → A) where
+  fill_append : (xs ys : List A) (n : ℕ) → n ≤ length xs → fill (λ k l. f k) (xs ++ ys) n ≡ fill (λ k l. f k) xs n ++ ys
+  unfolding fill
+  fill_append xs ys zero h = refl
+  fill_append xs ys (suc n) h =
+      rw (fill_append xs ys n (omega arith)) (set-append_left (fill (λ k l. f k) xs n) ys n (f n) (rw (length_fill (λ k l. f k) xs n) h))
+
+  pub fill_front : (l : List A) (n : ℕ) → n ≤ length l → fill (λ k l. f k) (take n l) n ++ drop n l ≡ fill (λ k l. f k) l n
+  fill_front l n h =
+      let e : n ≤ length (take n l) = rw (length-take-le n l h) (omega arith) in
+      sym (fill_append (take n l) (drop n l) n e) ∙ rw (take-append-drop n l) refl

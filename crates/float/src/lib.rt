@@ -17,6 +17,7 @@ ghost use Rattle.float.specs.Log.{log_sum, log_from, log_at, log_of};
 // ---- single values
 
 // Whether x is neither a NaN nor an infinity.
+#[tactic(auto, using(crate::proofs::Values::finite_is))]
 pub fn is_finite(x: f32) -> bool
     ensures { result ≡ finite x }
 {
@@ -54,7 +55,7 @@ impl Width for f64 {
     ghost zero = { λ x e. e };
 }
 
-// v if v > 0, else +0, for a NaN too.
+// v if v > 0, else +0, for a NaN too. The library's `max` leaves open which zero comes out of -0 and +0; here it is +0.
 pub fn max_zero<F: Width>(v: F) -> F
     ensures { F.value result ≡ max_zero F.format (F.value v) }
 {
@@ -62,7 +63,8 @@ pub fn max_zero<F: Width>(v: F) -> F
     if zero < v { v } else { zero }
 }
 
-// The smaller of a and b, or the other one where one is a NaN.
+// The smaller of a and b, or the other one where one is a NaN. The library's `min` leaves open which zero comes out where two meet; here it is the first.
+#[tactic(auto, using(crate::proofs::Values::least_is))]
 pub fn min(a: f32, b: f32) -> f32
     ensures { result ≡ least a b }
 {
@@ -215,6 +217,7 @@ pub fn root(x: f32) -> f32
 // ---- exp
 
 // 1 + (t / n) * (last), from 1, for n = 8 down to 1.
+#[tactic(auto, using(crate::proofs::ExpSteps::horner_first, crate::proofs::ExpSteps::horner_next))]
 fn series(t: f64) -> f64
     ensures { result ≡ horner t 8 }
 {
@@ -225,6 +228,7 @@ fn series(t: f64) -> f64
     last
 }
 
+#[tactic(auto, using(crate::proofs::ExpSteps::squared_next, crate::proofs::ExpSteps::squared_done))]
 fn squared_ten_times(x: f64) -> f64
     ensures { result ≡ squared 10 x }
 {
@@ -251,6 +255,7 @@ pub fn exp(x: f32) -> f32
 // ---- log
 
 // 1/n + q * (last), from 1/15, for n = 13 down to 1 by twos: n is 2 * k - 1.
+#[tactic(auto, using(crate::proofs::LogSteps::sum_first, crate::proofs::LogSteps::sum_next))]
 fn log_sum(q: f64) -> f64
     ensures { result ≡ log_sum q 7 }
 {
@@ -262,6 +267,7 @@ fn log_sum(q: f64) -> f64
 }
 
 // The logarithm of m * 2^k.
+#[tactic(auto, unfolding(crate::specs::Log::log_from, crate::specs::Log::log_part, crate::specs::Log::z_of))]
 fn log_from(m: f64, k: f64) -> f64
     ensures { result ≡ log_from m k }
 {

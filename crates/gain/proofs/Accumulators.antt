@@ -5,7 +5,7 @@ use Rattle.float.specs.Values.{zero64}
 use Rattle.float.specs.Series.{sum_to}
 use Rattle.gain.specs.declared.StepSums.{StepSums}
 use Rattle.gain.specs.Gain.{leaky, through}
-use Rattle.gain.specs.Prepared.{Summed, tick_more}
+use Rattle.gain.specs.Prepared.{Summed}
 
 pub record Running (carry : Float) (x c t : ℕ → Float) (i : ℕ) (m : Float) (s : StepSums) : Type 0 where
   pub carried : m ≡ leaky carry x i
@@ -15,12 +15,16 @@ pub start : (carry : Float) (x c t : ℕ → Float) → Running carry x c t 0 ze
 unfolding leaky sum_to
 start carry x c t = record { carried = refl; sums = record { squares = refl; constants = refl; targets = refl } }
 
-abbrev leak : Float → Float → Float → Float
-leak carry m v = add binary64 (mul binary64 carry m) v
-
-pub next : (carry : Float) (x c t : ℕ → Float) (i : ℕ) (m : Float) (s : StepSums) (v : Float) → Running carry x c t i m s → v ≡ x i
-    → Running carry x c t (i + 1) (leak carry m v) (tick_more s (leak carry m v) (c i) (t i))
+pub next : (carry : Float) (x c t : ℕ → Float) (i : ℕ) (m : Float) (s : StepSums) (v l : Float) (r : StepSums) → Running carry x c t i m s → v ≡ x i → l ≡ add binary64 (mul binary64 carry m) v
+    → r.mm ≡ add binary64 s.mm (mul binary64 l l) → r.mc ≡ add binary64 s.mc (mul binary64 l (c i)) → r.mt ≡ add binary64 s.mt (mul binary64 l (t i)) → Running carry x c t (i + 1) l r
 unfolding leaky sum_to
-next carry x c t i m s v r e =
-    rw (add-one, e, r.carried)
-    (record { carried = refl; sums = record { squares = rw r.sums.squares refl; constants = rw r.sums.constants refl; targets = rw r.sums.targets refl } })
+next carry x c t i m s v l r h e on mm mc mt =
+    let now : l ≡ leaky carry x (i + 1) = rw (add-one, on, e, h.carried) refl in
+    record {
+      carried = now;
+      sums = record {
+        squares = rw (mm, now, h.sums.squares, add-one) refl;
+        constants = rw (mc, now, h.sums.constants, add-one) refl;
+        targets = rw (mt, now, h.sums.targets, add-one) refl;
+      };
+    }

@@ -3,3 +3,5 @@ pub mod Accumulators
 pub mod Folds
 pub mod Window
 pub mod Examples
+pub mod Zipped
+pub mod Ranges

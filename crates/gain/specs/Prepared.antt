@@ -47,10 +47,6 @@ pub record Summed (m c t : ℕ → Float) (n : ℕ) (r : StepSums) : Type 0 wher
   pub constants : r.mc ≡ dot_to binary64 m c n
   pub targets : r.mt ≡ dot_to binary64 m t n
 
--- with the values of one tick more
-abbrev pub tick_more : StepSums → (m c t : Float) → StepSums
-tick_more s m c t = record { mm = add binary64 s.mm (mul binary64 m m); mc = add binary64 s.mc (mul binary64 m c); mt = add binary64 s.mt (mul binary64 m t) }
-
 -- the three sums that it is not in, as they are kept
 pub record Totals (c t : ℕ → Float) (w : Shared) : Type 0 where
   pub constants : w.cc ≡ dot_to binary64 c c w.ticks

@@ -8,7 +8,7 @@ ghost use Rattle.std.specs.Float.Ieee.{add, sub, mul};
 ghost use Rattle.float.specs.Values.{one32, one64};
 ghost use Rattle.float.specs.Series.{at, fill};
 ghost use Rattle.gain.specs.Gain.{first_tick, blend as blend_of, change, through, sound_fit, solved};
-ghost use Rattle.gain.specs.Prepared.{series, ticks_of, products, tick_more, Prepared};
+ghost use Rattle.gain.specs.Prepared.{series, ticks_of, products, Prepared};
 
 // One gain fit.
 #[derive(Clone, Copy)]
@@ -36,6 +36,7 @@ impl Shared {
     }
 
     // The fit that these sums and those of one step solve to.
+    #[tactic(auto, unfolding(crate::specs::Gain::solved))]
     pub fn solve(self, step: StepSums) -> Option<GainFit>
         ensures { result ≡ solved step.mm step.mc self.cc step.mt self.ct self.tt }
     {
@@ -60,7 +61,9 @@ pub struct StepSums {
 impl StepSums {
     // With the values of one tick more.
     pub fn plus(self, m: f64, c: f64, t: f64) -> StepSums
-        ensures { result ≡ tick_more self m c t }
+        ensures squares { result.mm ≡ add binary64 self.mm (mul binary64 m m) }
+        ensures constants { result.mc ≡ add binary64 self.mc (mul binary64 m c) }
+        ensures targets { result.mt ≡ add binary64 self.mt (mul binary64 m t) }
     {
         StepSums {
             mm: self.mm + m * m,
@@ -99,6 +102,7 @@ pub fn blend(half: bool, newer: f64, older: f64) -> f64
 }
 
 // The leaky sum of 1, tick by tick.
+#[tactic(auto, using(float::proofs::Fill::fill_front), unfolding(crate::specs::Gain::leaky, float::specs::Series::fill))]
 fn leaky_constants(carry: f64, ticks: usize, cs: &mut [f64; 2048])
     requires { ticks ≤ 2048 }
     ensures { cs.new ≡ fill (series (through carry (λ i. one64))) cs.old ticks }
@@ -111,6 +115,7 @@ fn leaky_constants(carry: f64, ticks: usize, cs: &mut [f64; 2048])
 }
 
 // The leaky sum of the changes of the rate, from tick 11 on.
+#[tactic(auto, using(float::proofs::Fill::fill_front), unfolding(crate::specs::Gain::leaky, float::specs::Series::fill))]
 fn leaky_changes(rates: &[f32; 2048], carry: f64, ticks: usize, ts: &mut [f64; 2048])
     requires { ticks ≤ 2037 }
     ensures { ts.new ≡ fill (series (through carry (change (at rates.now)))) ts.old ticks }
@@ -124,7 +129,8 @@ fn leaky_changes(rates: &[f32; 2048], carry: f64, ticks: usize, ts: &mut [f64; 2
 
 // ---- the sums
 
-// The sum of the products of two lists, entry by entry.
+// The sum of the products of two lists, entry by entry. `least_squares` has the same of f32: one function of both would want four more laws of `float::Width`,
+// that + and * may be used and that they are those of IEEE 754, which is no plainer than the line below.
 fn dot(a: &[f64], b: &[f64]) -> f64
     ensures { result ≡ products a.now b.now }
 {
@@ -175,6 +181,7 @@ pub fn prepare(
 // ---- the solution
 
 // A gain and a difference before max as a fit, narrowed. None where the difference is NaN or the narrowed gain is not finite.
+#[tactic(auto, unfolding(crate::specs::Gain::sound_fit))]
 fn sound_fit(gain: f64, difference: f64) -> Option<GainFit>
     ensures { result ≡ sound_fit gain difference }
 {

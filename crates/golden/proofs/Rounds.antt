@@ -8,8 +8,8 @@ use lib.Ieee.{Float, lt}
 use Rattle.std.specs.Prelude.{Option, Some, None}
 use Rattle.gain.specs.declared.GainFit.{GainFit}
 use Rattle.grid.specs.declared.LagFit.{LagFit}
-use Rattle.grid.specs.Grid.{lag_fit}
-use Rattle.golden.specs.Golden.{golden, tried, better_of, left_of, right_of, max_rounds}
+use Rattle.grid.specs.Grid.{lag_fit, better_of}
+use Rattle.golden.specs.Golden.{golden, tried, left_of, right_of, max_rounds}
 
 pub done : (fit : Float → Option GainFit) (r : ℕ) (low high : Float) (best : LagFit) → max_rounds ≤ r
     → golden fit (max_rounds - r) low high best r ≡ record { best = best; rounds = r }
@@ -31,12 +31,12 @@ module _ (fit : Float → Option GainFit) (r : ℕ) (low high : Float) (best : L
 
   pub keep_left : (a b : GainFit) → fit (left_of low high) ≡ Some a → fit (right_of low high) ≡ Some b → lt a.residual b.residual ≡ true
       → golden fit (max_rounds - r) low high best r
-      ≡ golden fit (max_rounds - (r + 1)) low (right_of low high) (better_of best (lag_fit (left_of low high) low high a)) (r + 1)
+      ≡ golden fit (max_rounds - (r + 1)) low (right_of low high) (better_of best (lag_fit (record { pole = left_of low high; low = low; high = high }) a)) (r + 1)
   unfolding golden tried
   keep_left a b d e l = rw (more, golden, d, e, l, add-one) refl
 
   pub keep_right : (a b : GainFit) → fit (left_of low high) ≡ Some a → fit (right_of low high) ≡ Some b → lt a.residual b.residual ≡ false
       → golden fit (max_rounds - r) low high best r
-      ≡ golden fit (max_rounds - (r + 1)) (left_of low high) high (better_of best (lag_fit (right_of low high) low high b)) (r + 1)
+      ≡ golden fit (max_rounds - (r + 1)) (left_of low high) high (better_of best (lag_fit (record { pole = right_of low high; low = low; high = high }) b)) (r + 1)
   unfolding golden tried
   keep_right a b d e l = rw (more, golden, d, e, l, add-one) refl

@@ -4,7 +4,7 @@ use Rattle.std.specs.Float.{binary32}
 use Rattle.std.specs.Float.Ieee.{add, sub, mul, lt, of_bits}
 use Rattle.gain.specs.declared.GainFit.{GainFit}
 use Rattle.grid.specs.declared.LagFit.{LagFit}
-use Rattle.grid.specs.Grid.{lag_fit}
+use Rattle.grid.specs.Grid.{lag_fit, better_of}
 use Rattle.golden.specs.declared.Refined.{Refined}
 
 -- 0.618034
@@ -18,14 +18,6 @@ left_of low high = sub binary32 high (mul binary32 golden32 (sub binary32 high l
 abbrev pub right_of : (low high : Float) → Float
 right_of low high = add binary32 low (mul binary32 golden32 (sub binary32 high low))
 
-abbrev pub pick_lag : Bool → LagFit → LagFit → LagFit
-pick_lag true a b = a
-pick_lag false a b = b
-
--- "A kept one strictly below the best replaces it."
-unfoldable pub better_of : LagFit → LagFit → LagFit
-better_of best kept = pick_lag (lt kept.residual best.residual) kept best
-
 -- what a round leaves: the end of the search, or the next bracket and the best so far
 pub data Round : Type 0 where
   over : Round
@@ -36,13 +28,14 @@ pick_round true a b = a
 pick_round false a b = b
 
 -- "the round in which either trial has no fit ends the search. Left strictly smaller: high = right, keep left; else low = left, keep right."
+-- "A kept one strictly below the best replaces it."
 unfoldable pub tried : (low high : Float) → LagFit → Option GainFit → Option GainFit → Round
 tried low high best None r = over
 tried low high best (Some l) None = over
 tried low high best (Some l) (Some r) =
     pick_round (lt l.residual r.residual)
-    (on low (right_of low high) (better_of best (lag_fit (left_of low high) low high l)))
-    (on (left_of low high) high (better_of best (lag_fit (right_of low high) low high r)))
+    (on low (right_of low high) (better_of best (lag_fit (record { pole = left_of low high; low = low; high = high }) l)))
+    (on (left_of low high) high (better_of best (lag_fit (record { pole = right_of low high; low = low; high = high }) r)))
 
 -- what follows a round: the rest of the search, or its end
 abbrev pub onward : Round → ((low high : Float) → LagFit → Refined) → Refined → Refined
@@ -63,4 +56,4 @@ max_rounds = 12
 
 -- a candidate refined between its own ends
 unfoldable pub refined : (Float → Option GainFit) → LagFit → Refined
-refined fit b = golden fit max_rounds b.low b.high b 0
+refined fit b = golden fit max_rounds b.bracket.low b.bracket.high b 0

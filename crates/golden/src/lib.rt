@@ -3,7 +3,7 @@
 
 ghost use Rattle.std.specs.Prelude.{◌≡◌, ◌≤◌};
 ghost use Rattle.gain.specs.Prepared.{fit_of};
-ghost use Rattle.golden.specs.Golden.{better_of, max_rounds, refined};
+ghost use Rattle.golden.specs.Golden.{max_rounds, refined};
 
 use gain::FitInput;
 use grid::{Bracket, LagFit};
@@ -15,22 +15,12 @@ pub struct Refined {
     pub rounds: u32,
 }
 
-fn better(best: LagFit, kept: LagFit) -> LagFit
-    ensures { result ≡ better_of best kept }
-{
-    if kept.residual < best.residual {
-        kept
-    } else {
-        best
-    }
-}
-
 // A golden-section search between the ends of a candidate, at one step.
 pub fn refine(input: FitInput<'_>, step: usize, grid_fit: LagFit) -> Refined
     ensures { (result ≡ refined (fit_of input.entry step) grid_fit) × (result.rounds ≤ max_rounds) }
 {
-    let mut low = grid_fit.low;
-    let mut high = grid_fit.high;
+    let mut low = grid_fit.bracket.low;
+    let mut high = grid_fit.bracket.high;
     let mut best = grid_fit;
     let mut rounds = 0u32;
     for made in 0..12u32 {
@@ -44,20 +34,20 @@ pub fn refine(input: FitInput<'_>, step: usize, grid_fit: LagFit) -> Refined
             break;
         };
         if left_fit.residual < right_fit.residual {
-            let kept = Bracket {
+            let bracket = Bracket {
                 pole: left,
                 low,
                 high,
             };
-            best = better(best, kept.candidate(left_fit));
+            best = best.better(bracket.candidate(left_fit));
             high = right;
         } else {
-            let kept = Bracket {
+            let bracket = Bracket {
                 pole: right,
                 low,
                 high,
             };
-            best = better(best, kept.candidate(right_fit));
+            best = best.better(bracket.candidate(right_fit));
             low = left;
         }
     }

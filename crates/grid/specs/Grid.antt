@@ -4,25 +4,30 @@ use Rattle.std.specs.Float.Ieee.{lt, le}
 use Rattle.float.specs.Values.{zero32}
 use Rattle.lags.specs.Lags.{lag_count, pole_of}
 use Rattle.gain.specs.declared.GainFit.{GainFit}
+use Rattle.grid.specs.declared.Bracket.{Bracket}
 use Rattle.grid.specs.declared.LagFit.{LagFit}
 
--- "A candidate carries pole, low and high bracket ends, gain and residual"
-abbrev pub lag_fit : (pole low high : Float) → GainFit → LagFit
-lag_fit pole low high fit = record { pole = pole; low = low; high = high; gain = fit.gain; residual = fit.residual }
+-- "A candidate carries pole, low and high bracket ends, gain and residual": a bracket, and the fit at its pole
+abbrev pub lag_fit : Bracket → GainFit → LagFit
+lag_fit b fit = record { bracket = b; fit = fit }
 
-abbrev pub candidate : (pole low high : Float) → Option GainFit → Option LagFit
-candidate pole low high None = None
-candidate pole low high (Some fit) = Some (lag_fit pole low high fit)
+abbrev pub candidate : Bracket → Option GainFit → Option LagFit
+candidate b None = None
+candidate b (Some fit) = Some (lag_fit b fit)
 
-abbrev pub pick_kept : Bool → Option LagFit → Option LagFit → Option LagFit
-pick_kept true a b = a
-pick_kept false a b = b
+abbrev pub pick_lag : Bool → LagFit → LagFit → LagFit
+pick_lag true a b = a
+pick_lag false a b = b
+
+-- the next where its residual is strictly smaller, else the best
+unfoldable pub better_of : LagFit → LagFit → LagFit
+better_of best next = pick_lag (lt next.fit.residual best.fit.residual) next best
 
 -- "the first fit is kept until a strictly smaller residual replaces it": the kept one, and the next
 unfoldable pub keep_of : Option LagFit → Option LagFit → Option LagFit
 keep_of k None = k
 keep_of None (Some b) = Some b
-keep_of (Some a) (Some b) = pick_kept (lt b.residual a.residual) (Some b) (Some a)
+keep_of (Some a) (Some b) = Some (better_of a b)
 
 -- what is kept of the first n candidates
 unfoldable pub kept_to : (ℕ → Option LagFit) → ℕ → Option LagFit
@@ -41,9 +46,12 @@ pick_end false a b = b
 abbrev pub high_end : (ℕ → Float) → ℕ → ℕ → Float
 high_end pole last i = pick_end (ltb i last) (pole (i + 1)) (pole i)
 
+abbrev pub bracket_of : (ℕ → Float) → ℕ → ℕ → Bracket
+bracket_of pole last i = record { pole = pole i; low = low_end pole i; high = high_end pole last i }
+
 -- one step's candidates: each pole with its ends and its fit
 abbrev pub candidates : (ℕ → Float) → ℕ → (Float → Option GainFit) → ℕ → Option LagFit
-candidates pole last fit i = candidate (pole i) (low_end pole i) (high_end pole last i) (fit (pole i))
+candidates pole last fit i = candidate (bracket_of pole last i) (fit (pole i))
 
 -- the candidate that each step keeps, of the 129 poles 0 to 128
 unfoldable pub kept_at : Float → (ℕ → Float → Option GainFit) → ℕ → Option LagFit
@@ -54,8 +62,8 @@ pub record First (f : ℕ → Option LagFit) (n : ℕ) (b : LagFit) : Type 0 whe
   pub place : ℕ
   pub inside : place < n
   pub is : f place ≡ Some b
-  pub least : (i : ℕ) (a : LagFit) → i < n → f i ≡ Some a → lt a.residual b.residual ≡ false
-  pub first : (i : ℕ) (a : LagFit) → i < place → f i ≡ Some a → le a.residual b.residual ≡ false
+  pub least : (i : ℕ) (a : LagFit) → i < n → f i ≡ Some a → lt a.fit.residual b.fit.residual ≡ false
+  pub first : (i : ℕ) (a : LagFit) → i < place → f i ≡ Some a → le a.fit.residual b.fit.residual ≡ false
 
 -- "the first fit is kept until a strictly smaller residual replaces it", of what is kept of the first n candidates: that one, or none where none has a fit
 abbrev pub KeepsFirst : (ℕ → Option LagFit) → ℕ → Option LagFit → Type 0

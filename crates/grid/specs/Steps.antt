@@ -4,6 +4,7 @@ use Rattle.float.specs.Series.{fill}
 use Rattle.lags.specs.Lags.{lag_count, pole_of}
 use Rattle.gain.specs.declared.GainFit.{GainFit}
 use Rattle.gain.specs.Gain.{step_count}
+use Rattle.grid.specs.declared.Bracket.{Bracket}
 use Rattle.grid.specs.declared.LagFit.{LagFit}
 use Rattle.grid.specs.Grid.{candidate, keep_of, kept_to, candidates, kept_at, KeepsFirst}
 
@@ -12,8 +13,8 @@ abbrev pub kept_below : Float → (ℕ → Float → Option GainFit) → ℕ →
 kept_below dt fit i s = kept_to (candidates (pole_of dt) lag_count (fit s)) i
 
 -- what a step keeps by a table, against its fit at one more pole
-abbrev pub against : (pole low high : Float) → List (Option GainFit) → ℕ → List (Option LagFit) → Option LagFit
-against pole low high fits s kept = keep_of (get_or kept s None) (candidate pole low high (get_or fits s None))
+abbrev pub against : Bracket → List (Option GainFit) → ℕ → List (Option LagFit) → Option LagFit
+against b fits s kept = keep_of (get_or kept s None) (candidate b (get_or fits s None))
 
 -- what each step keeps, as a list
 abbrev pub table_of : (ℕ → Option LagFit) → List (Option LagFit)

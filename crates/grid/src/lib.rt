@@ -5,20 +5,11 @@ ghost use Rattle.std.specs.Prelude.{◌≡◌};
 ghost use Rattle.float.specs.Series.{fill};
 ghost use Rattle.gain.specs.Gain.{step_count};
 ghost use Rattle.gain.specs.Prepared.{fit_of};
-ghost use Rattle.grid.specs.Grid.{lag_fit, candidate, keep_of};
+ghost use Rattle.grid.specs.Grid.{lag_fit, candidate, better_of, keep_of};
 ghost use Rattle.grid.specs.Steps.{against, KeptTable};
 
 use gain::{FitInput, GainFit};
-
-// A candidate: its pole, the ends of the bracket around it, its gain and its residual.
-#[derive(Clone, Copy)]
-pub struct LagFit {
-    pub pole: f32,
-    pub low: f32,
-    pub high: f32,
-    pub gain: f32,
-    pub residual: f32,
-}
+use kernel::StepTable;
 
 // A pole and the ends of the bracket around it.
 #[derive(Clone, Copy)]
@@ -28,45 +19,64 @@ pub struct Bracket {
     pub high: f32,
 }
 
+// A candidate: a bracket, and the fit at its pole.
+#[derive(Clone, Copy)]
+pub struct LagFit {
+    pub bracket: Bracket,
+    pub fit: GainFit,
+}
+
 impl Bracket {
     // The candidate that a fit at the pole makes.
     pub fn candidate(self, fit: GainFit) -> LagFit
-        ensures { result ≡ lag_fit self.pole self.low self.high fit }
+        ensures { result ≡ lag_fit self fit }
     {
-        LagFit {
-            pole: self.pole,
-            low: self.low,
-            high: self.high,
-            gain: fit.gain,
-            residual: fit.residual,
+        LagFit { bracket: self, fit }
+    }
+}
+
+impl LagFit {
+    // The first, until a strictly smaller residual replaces it.
+    #[tactic(auto, unfolding(crate::specs::Grid::better_of))]
+    pub fn better(self, next: LagFit) -> LagFit
+        ensures { result ≡ better_of self next }
+    {
+        if next.fit.residual < self.fit.residual {
+            next
+        } else {
+            self
         }
     }
 }
 
-// The first fit is kept until a strictly smaller residual replaces it.
-fn keep(kept: Option<LagFit>, bracket: Bracket, fit: Option<GainFit>) -> Option<LagFit>
-    ensures { result ≡ keep_of kept (candidate bracket.pole bracket.low bracket.high fit) }
+// A candidate, where there is a fit.
+fn candidate(bracket: Bracket, fit: Option<GainFit>) -> Option<LagFit>
+    ensures { result ≡ candidate bracket fit }
 {
-    let Some(fit) = fit else {
+    fit.map(|fit| bracket.candidate(fit))
+}
+
+// What is kept, and the next.
+#[tactic(auto, unfolding(crate::specs::Grid::keep_of))]
+fn keep(kept: Option<LagFit>, next: Option<LagFit>) -> Option<LagFit>
+    ensures { result ≡ keep_of kept next }
+{
+    let Some(next) = next else {
         return kept;
     };
-    let next = bracket.candidate(fit);
     let Some(best) = kept else {
         return Some(next);
     };
-    if fit.residual < best.residual {
-        Some(next)
-    } else {
-        kept
-    }
+    Some(best.better(next))
 }
 
 // What each step keeps, against its fit at one more pole.
+#[tactic(auto, using(float::proofs::Fill::fill_more), unfolding(float::specs::Series::fill))]
 fn keep_each(kept: &mut [Option<LagFit>; 20], bracket: Bracket, fits: [Option<GainFit>; 20])
-    ensures { kept.new ≡ fill (against bracket.pole bracket.low bracket.high fits) kept.old step_count }
+    ensures { kept.new ≡ fill (against bracket fits) kept.old step_count }
 {
     for (s, best) in kept.iter_mut().enumerate() {
-        *best = keep(*best, bracket, fits[s]);
+        *best = keep(*best, candidate(bracket, fits[s]));
     }
 }
 
@@ -81,34 +91,27 @@ pub fn keep_poles(input: FitInput<'_>, dt_s: f32) -> [Option<LagFit>; 20]
         let second = lags::pole(dt_s, i * 3 + 1);
         let third = lags::pole(dt_s, i * 3 + 2);
         let high = lags::pole(dt_s, i * 3 + 3);
-        let fits = kernel::fit_steps(input, [pole, second, third]);
-        keep_each(
-            &mut kept,
+        let table = StepTable::new(input, [pole, second, third]);
+        let brackets = [
             Bracket {
                 pole,
                 low,
                 high: second,
             },
-            fits[0],
-        );
-        keep_each(
-            &mut kept,
             Bracket {
                 pole: second,
                 low: pole,
                 high: third,
             },
-            fits[1],
-        );
-        keep_each(
-            &mut kept,
             Bracket {
                 pole: third,
                 low: second,
                 high,
             },
-            fits[2],
-        );
+        ];
+        for (q, bracket) in brackets.iter().enumerate() {
+            keep_each(&mut kept, *bracket, table.fits(q));
+        }
         low = third;
         pole = high;
     }

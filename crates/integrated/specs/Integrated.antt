@@ -21,7 +21,7 @@ use Rattle.golden.specs.Golden.{refined}
 -- "The tie rule with gain as effect"
 unfoldable pub entry_of : Option LagFit → Option Entry
 entry_of None = None
-entry_of (Some b) = Some (record { effect = b.gain; residual = b.residual })
+entry_of (Some b) = Some (record { effect = b.fit.gain; residual = b.fit.residual })
 
 unfoldable pub entries : (ℕ → Option LagFit) → List (Option Entry)
 entries kept = fill (λ s l. entry_of (kept s)) (replicate entry_count None) step_count
@@ -38,10 +38,10 @@ older_share (suc h) = from_bits binary32 0x3f00_0000
 -- "Model: rate weights 1 + pole, -pole; moment weights a·gain·(1 - pole), b·gain·(1 - pole), 0"
 unfoldable pub model_of : LagFit → ℕ → Float → RateModel
 model_of b p dt = record {
-  r1 = add binary32 one32 b.pole;
-  r2 = neg b.pole;
-  m0 = mul binary32 (mul binary32 (newer_share (is_half (p - 1))) b.gain) (sub binary32 one32 b.pole);
-  m1 = mul binary32 (mul binary32 (older_share (is_half (p - 1))) b.gain) (sub binary32 one32 b.pole);
+  r1 = add binary32 one32 b.bracket.pole;
+  r2 = neg b.bracket.pole;
+  m0 = mul binary32 (mul binary32 (newer_share (is_half (p - 1))) b.fit.gain) (sub binary32 one32 b.bracket.pole);
+  m1 = mul binary32 (mul binary32 (older_share (is_half (p - 1))) b.fit.gain) (sub binary32 one32 b.bracket.pole);
   m2 = zero32;
   delay = of_integrated p;
   dt_s = dt;

@@ -38,16 +38,17 @@ fn shares(step: usize) -> (f32, f32)
 }
 
 // A candidate as a model.
+#[tactic(auto, unfolding(crate::specs::Integrated::model_of))]
 fn model(b: LagFit, position: Position, dt_s: f32) -> RateModel
     ensures { result ≡ model_of b position.place dt_s }
 {
     let (newer, older) = shares(position.step());
-    let rest = 1.0 - b.pole;
+    let rest = 1.0 - b.bracket.pole;
     RateModel {
-        r1: 1.0 + b.pole,
-        r2: -b.pole,
-        m0: newer * b.gain * rest,
-        m1: older * b.gain * rest,
+        r1: 1.0 + b.bracket.pole,
+        r2: -b.bracket.pole,
+        m0: newer * b.fit.gain * rest,
+        m1: older * b.fit.gain * rest,
         m2: 0.0,
         delay: Delay::from_integrated(position.place),
         dt_s,
@@ -55,6 +56,7 @@ fn model(b: LagFit, position: Position, dt_s: f32) -> RateModel
 }
 
 // The model of a refined candidate. The gain fits: 20 at each of 129 poles, and two a round.
+#[tactic(auto, unfolding(crate::specs::Integrated::modelled))]
 fn modelled(r: Refined, position: Position, dt_s: f32) -> IntegratedFit
     requires { r.rounds ≤ max_rounds }
     ensures { result ≡ modelled_of r position.place dt_s }
@@ -65,6 +67,7 @@ fn modelled(r: Refined, position: Position, dt_s: f32) -> IntegratedFit
     }
 }
 
+#[tactic(auto, unfolding(crate::specs::Integrated::no_model))]
 fn no_model(gain_fits: u32) -> IntegratedFit
     ensures { result ≡ no_model gain_fits }
 {
@@ -77,16 +80,14 @@ fn no_model(gain_fits: u32) -> IntegratedFit
 // ---- the fit
 
 // A kept candidate as an entry of the tie rule, with its gain as effect.
+#[tactic(auto, unfolding(crate::specs::Integrated::entry_of))]
 fn entry(kept: Option<LagFit>) -> Option<Entry>
     ensures { result ≡ entry_of kept }
 {
-    match kept {
-        None => None,
-        Some(b) => Some(Entry {
-            effect: b.gain,
-            residual: b.residual,
-        }),
-    }
+    kept.map(|b| Entry {
+        effect: b.fit.gain,
+        residual: b.fit.residual,
+    })
 }
 
 fn entries(kept: [Option<LagFit>; 20]) -> [Option<Entry>; 20]
@@ -96,6 +97,7 @@ fn entries(kept: [Option<LagFit>; 20]) -> [Option<Entry>; 20]
 }
 
 // The kept candidate of a position, refined.
+#[tactic(auto, unfolding(crate::specs::Integrated::chosen_from))]
 fn choose(
     input: FitInput<'_>,
     dt_s: f32,

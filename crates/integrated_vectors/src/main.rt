@@ -8,16 +8,8 @@ use delay::RateModel;
 use gain::FitInput;
 use grid::LagFit;
 use std::io;
-use vectors::{double_at, is_at, replay};
+use vectors::{count_at, double_at, is_at, replay};
 use wire::{read_float, read_word};
-
-// The count that a record of a window begins with, at most what a window holds.
-fn count(s: &[u8]) -> usize
-    ensures { result ≤ 2048 }
-{
-    let n = read_word(s, 0);
-    n.min(2048) as usize
-}
 
 // Every second word from a place on.
 fn load(s: &[u8], first: usize, n: usize, values: &mut [f32; 2048])
@@ -38,7 +30,7 @@ fn poles_agree(s: &[u8]) -> bool {
 // w stored, w step, carry as f64 bits; each f rate, f lagged; w 1 for a fit, else 0; f gain, f residual.
 // A finite moment goes through the lag of pole 0 as it is.
 fn gain_agrees(s: &[u8]) -> bool {
-    let n = count(s);
+    let n = count_at(s, 0, 2048);
     let mut rates = [0.0f32; 2048];
     let mut lagged = [0.0f32; 2048];
     load(s, 16, n, &mut rates);
@@ -67,17 +59,17 @@ fn is_kept(kept: Option<LagFit>, s: &[u8], at: usize) -> bool
     match kept {
         None => read_word(s, at) == 0,
         Some(b) => (read_word(s, at) == 1)
-            & is_at(b.pole, s, at + 4)
-            & is_at(b.low, s, at + 8)
-            & is_at(b.high, s, at + 12)
-            & is_at(b.gain, s, at + 16)
-            & is_at(b.residual, s, at + 20),
+            & is_at(b.bracket.pole, s, at + 4)
+            & is_at(b.bracket.low, s, at + 8)
+            & is_at(b.bracket.high, s, at + 12)
+            & is_at(b.fit.gain, s, at + 16)
+            & is_at(b.fit.residual, s, at + 20),
     }
 }
 
 // w stored, f dt_s; each f rate, f moment; what each of 20 steps keeps.
 fn grid_agrees(s: &[u8]) -> bool {
-    let n = count(s);
+    let n = count_at(s, 0, 2048);
     if n < 12 {
         return false;
     }
@@ -119,7 +111,7 @@ fn is_model(m: RateModel, s: &[u8], at: usize) -> bool
 
 // w stored, f window duration; each f rate, f moment; the model, or w 0 and nine words; w gain fits.
 fn integrated_agrees(s: &[u8]) -> bool {
-    let n = count(s);
+    let n = count_at(s, 0, 2048);
     let mut rates = [0.0f32; 2048];
     let mut moments = [0.0f32; 2048];
     load(s, 8, n, &mut rates);
@@ -138,15 +130,15 @@ fn integrated_agrees(s: &[u8]) -> bool {
 // ---- files
 
 fn gain_size(s: &[u8]) -> usize {
-    28 + count(s) * 8
+    28 + count_at(s, 0, 2048) * 8
 }
 
 fn grid_size(s: &[u8]) -> usize {
-    488 + count(s) * 8
+    488 + count_at(s, 0, 2048) * 8
 }
 
 fn integrated_size(s: &[u8]) -> usize {
-    48 + count(s) * 8
+    48 + count_at(s, 0, 2048) * 8
 }
 
 fn main(rt: HostRuntime) -> io::Result<()> {

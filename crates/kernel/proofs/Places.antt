@@ -1,16 +1,11 @@
 -- Once a lane has the sums of its series over all ticks, they solve to the fit of its step at its pole.
-use Prim.Native.Nat.{ℕ, zero, suc, ◌+◌, ◌-◌, ◌*◌, ◌/◌, ◌%◌}
-use mathlib.Core.Path.{◌≡◌, refl}
-use mathlib.Core.List.{List, [], ◌∷◌}
-use native.Mathlib.Numerals.{add-one}
-use native.Mathlib.Omega.{arith}
-use lib.ListN.{length}
+use Rattle.std.proofs.Common.{◌≡◌, ℕ, zero, suc, ◌+◌, ◌-◌, ◌*◌, ◌/◌, ◌%◌, List, refl, add-one, arith}
 use lib.Ieee.{Float}
 use Rattle.float.specs.Series.{at}
-use Rattle.gain.specs.declared.Shared.{Shared}
+use Rattle.gain.specs.declared.FitInput.{FitInput}
 use Rattle.gain.specs.declared.StepSums.{StepSums}
 use Rattle.gain.specs.Gain.{first_tick, whole_ticks_of, is_half, felt, regressor, solved}
-use Rattle.gain.specs.Prepared.{ticks_of, fit_with}
+use Rattle.gain.specs.Prepared.{ticks_of, fit_of}
 use Rattle.gain.proofs.Accumulators.{Running, start, next}
 use Rattle.gain.proofs.Window.{solved_is}
 use Rattle.kernel.specs.Kernel.{Sums, sums_on, no_sums, tick_series, tick_sums}
@@ -22,7 +17,7 @@ three s = record { mm = s.mm; mc = s.mc; mt = s.mt }
 running : (carry : Float) (x c t : ℕ → Float) (n : ℕ) → Running carry x c t n (sums_on carry x c t no_sums n).m (three (sums_on carry x c t no_sums n))
 unfolding sums_on
 running carry x c t zero = start carry x c t
-running carry x c t (suc n) = rw add-one at (next carry x c t n _ _ (x n) (running carry x c t n) refl)
+running carry x c t (suc n) = rw add-one at (next carry x c t n _ _ (x n) _ (three (sums_on carry x c t no_sums (suc n))) (running carry x c t n) refl refl refl refl refl)
 
 -- the series of a lane is that of its step at its pole
 step_series : (poles : List Float) (u : ℕ → Float) (q s : ℕ) → tick_series poles u (s / 2) (q * 2 + is_half s) ≡ regressor s (at poles q) u
@@ -32,16 +27,9 @@ step_series poles u q s =
     let b : first_tick - s / 2 ≡ first_tick + 1 - whole_ticks_of s = omega arith in
     λ j. λ i. felt (at poles (e j)) u (a j) (b j + i)
 
-pub step_fit : (poles cs ts : List Float) (w : Shared) (u : ℕ → Float) (q s : ℕ) (x : Sums) → x ≡ tick_sums poles cs ts w.carry u (s / 2) (q * 2 + is_half s) (ticks_of w)
-    → solved x.mm x.mc w.cc x.mt w.ct w.tt ≡ fit_with w u (at cs) (at ts) s (at poles q)
-step_fit poles cs ts w u q s x e =
-    rw (e, ← (step_series poles u q s))
-    (solved_is _ (at cs) (at ts) (three (tick_sums poles cs ts w.carry u (s / 2) (q * 2 + is_half s) (ticks_of w))) w (running w.carry _ (at cs) (at ts) (ticks_of w)).sums)
-
--- three poles, one by one
-pub three_poles : (poles : List Float) → length poles ≡ 3 → poles ≡ at poles 0 ∷ at poles 1 ∷ at poles 2 ∷ []
-three_poles (a ∷ b ∷ c ∷ []) e = refl
-three_poles [] e = absurd (omega arith)
-three_poles (a ∷ []) e = absurd (omega arith)
-three_poles (a ∷ b ∷ []) e = absurd (omega arith)
-three_poles (a ∷ b ∷ c ∷ d ∷ l) e = absurd (omega arith)
+pub step_fit : (i : FitInput) (poles : List Float) (q s : ℕ) (x : Sums) → x ≡ tick_sums i poles (s / 2) (q * 2 + is_half s) (ticks_of i.shared)
+    → solved x.mm x.mc i.shared.cc x.mt i.shared.ct i.shared.tt ≡ fit_of i s (at poles q)
+step_fit i poles q s x e =
+    let w = i.shared in
+    rw (e, ← (step_series poles (at i.moments.now) q s))
+    (solved_is _ (at i.constants.now) (at i.changes.now) (three (tick_sums i poles (s / 2) (q * 2 + is_half s) (ticks_of w))) w (running w.carry _ (at i.constants.now) (at i.changes.now) (ticks_of w)).sums)

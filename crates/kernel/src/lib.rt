@@ -2,16 +2,16 @@
 // no sum waits for the one before it, and all of them stay in registers.
 #![tactic(auto)]
 
-ghost use Rattle.std.specs.Prelude.{◌≡◌, ℕ, ◌+◌, ◌-◌, ◌*◌, ◌≤◌, ◌<◌, map, replicate, None};
-ghost use Rattle.float.specs.Series.{at, fill};
-ghost use Rattle.gain.specs.Gain.{step_count};
+ghost use Rattle.std.specs.Prelude.{◌≡◌, ℕ, ◌≤◌, ◌<◌, length, min};
+ghost use Rattle.float.specs.Series.{at};
 ghost use Rattle.gain.specs.Prepared.{ticks_of, fit_of};
 ghost use Rattle.lanes.specs.Lanes.{lane_count};
-ghost use Rattle.kernel.specs.Kernel.{whole_ticks, lane, one_on, lanes_on, reached_of, block_on, lanes_at, tick_sums, solved_step, step_fits};
+ghost use Rattle.kernel.specs.Kernel.{lane, one_on, lanes_on, reached_of, block_on, HasSums, table_fits, step_fits};
 
 use gain::{FitInput, GainFit, Shared, StepSums};
 
 // The running values of the six lanes of a whole tick side by side: m, and the three sums that it is in.
+// Four arrays: an array of six structs takes 1.35 times as long, since the compiler no longer packs two lanes in a register.
 #[derive(Clone, Copy)]
 pub struct LaneSums {
     pub m: [f64; 6],
@@ -20,56 +20,41 @@ pub struct LaneSums {
     pub mt: [f64; 6],
 }
 
-// One tick more of six lanes, whose regressors stand side by side from a place on, beside the values of the two leaky series.
-fn add_tick(xs: &[f64; 768], place: usize, c: f64, t: f64, carry: f64, sums: LaneSums) -> LaneSums
-    requires { place + lane_count ≤ 768 }
-    ensures { (h : ℕ) → h < lane_count → lane result h ≡ one_on carry (at xs.now (place + h)) c t (lane sums h) }
-{
-    let mut m = sums.m;
-    let mut mm = sums.mm;
-    let mut mc = sums.mc;
-    let mut mt = sums.mt;
-    // By index: a lane is one place of four arrays side by side, and zipped they are no plainer.
-    for h in 0..6 {
-        let next = carry * m[h] + xs[place + h];
-        m[h] = next;
-        mm[h] = mm[h] + next * next;
-        mc[h] = mc[h] + next * c;
-        mt[h] = mt[h] + next * t;
+impl LaneSums {
+    // With one tick more of six lanes, beside the values of the two leaky series.
+    fn plus(self, carry: f64, tick: &[f64; 6], c: f64, t: f64) -> LaneSums
+        ensures { (h : ℕ) → h < lane_count → lane result h ≡ one_on carry (at tick.now h) c t (lane self h) }
+    {
+        let mut m = self.m;
+        let mut mm = self.mm;
+        let mut mc = self.mc;
+        let mut mt = self.mt;
+        for (h, x) in tick.iter().enumerate() {
+            let next = carry * m[h] + *x;
+            m[h] = next;
+            mm[h] = mm[h] + next * next;
+            mc[h] = mc[h] + next * c;
+            mt[h] = mt[h] + next * t;
+        }
+        LaneSums { m, mm, mc, mt }
     }
-    LaneSums { m, mm, mc, mt }
 }
 
-// n ticks more of six lanes, whose regressors stand side by side in a block from tick first on, beside the two leaky series from place from on.
+// Six lanes with some ticks more, beside as many values of the two leaky series.
 fn sum_lanes(
-    xs: &[f64; 768],
-    input: FitInput<'_>,
     sums: LaneSums,
-    first: usize,
-    from: usize,
-    n: usize,
+    carry: f64,
+    ticks: &[[f64; 6]],
+    constants: &[f64],
+    changes: &[f64],
 ) -> LaneSums
-    requires { (first + n ≤ 128) × (from + n ≤ 2048) }
-    ensures { (h : ℕ) → h < lane_count → lane result h ≡ lanes_on input.entry.shared.carry xs.now input.entry.constants.now input.entry.changes.now first from h (lane sums h) n }
+    requires constants { length constants.now ≡ length ticks.now }
+    requires changes { length changes.now ≡ length ticks.now }
+    ensures { (h : ℕ) → h < lane_count → lane result h ≡ lanes_on carry ticks.now constants.now changes.now h (lane sums h) (length ticks.now) }
 {
-    let FitInput {
-        moments: _,
-        constants,
-        changes,
-        shared,
-    } = input;
     let mut on = sums;
-    // By index: six places of the block and one of each leaky series a tick. Zipped they are three ranges and a nested pattern, which is no plainer.
-    for i in 0..n {
-        let place = (first + i) * 6;
-        let next = add_tick(
-            xs,
-            place,
-            constants[from + i],
-            changes[from + i],
-            shared.carry,
-            on,
-        );
+    for ((tick, c), t) in ticks.iter().zip(constants).zip(changes) {
+        let next = on.plus(carry, tick, *c, *t);
         on = next;
     }
     on
@@ -85,26 +70,39 @@ fn reached(n: usize, d: usize, tick: usize) -> usize
 
 // The lanes of whole tick d + 1 with a block in them, whose first tick is given.
 fn sum_block(
-    xs: &[f64; 768],
+    ticks: &[[f64; 6]; 128],
     input: FitInput<'_>,
     sums: LaneSums,
     d: usize,
     tick: usize,
 ) -> LaneSums
     requires { (d ≤ 9) × (tick ≤ 1920) }
-    ensures { (h : ℕ) → h < lane_count → lane result h ≡ block_on input.entry.shared.carry xs.now input.entry.constants.now input.entry.changes.now (ticks_of input.entry.shared) d tick h (lane sums h) }
+    ensures { (h : ℕ) → h < lane_count → lane result h ≡ block_on input.entry ticks.now d tick h (lane sums h) }
 {
-    let n = input.shared.fitted();
+    let FitInput {
+        moments: _,
+        constants,
+        changes,
+        shared,
+    } = input;
+    let n = shared.fitted();
     let from = reached(n, d, tick);
     let to = reached(n, d, tick + 128);
     let first = (11 - d + from).saturating_sub(tick);
-    sum_lanes(xs, input, sums, first, from, to - from)
+    let last = first + (to - from);
+    sum_lanes(
+        sums,
+        shared.carry,
+        &ticks[first..last],
+        &constants[from..to],
+        &changes[from..to],
+    )
 }
 
 // The sums of all steps: six lanes for each of ten whole ticks, the shortest first. They go into an array before they are solved, so that the compiler packs
 // two lanes in a register.
 fn sum_places(input: FitInput<'_>, poles: [f32; 3]) -> [LaneSums; 10]
-    ensures { (d h : ℕ) → d < whole_ticks → h < lane_count → lane (lanes_at result d) h ≡ tick_sums poles input.entry.constants.now input.entry.changes.now input.entry.shared.carry (at input.entry.moments.now) d h (ticks_of input.entry.shared) }
+    ensures { HasSums input.entry poles result }
 {
     let n = input.shared.fitted();
     let none = LaneSums {
@@ -114,45 +112,53 @@ fn sum_places(input: FitInput<'_>, poles: [f32; 3]) -> [LaneSums; 10]
         mt: [0.0f64; 6],
     };
     let mut sums = [none; 10];
-    let mut xs = [0.0f64; 768];
+    let mut ticks = [[0.0f64; 6]; 128];
     let mut lagged = [0.0f32; 3];
     for b in 0..(n + 138) / 128 {
         let tick = b * 128;
-        let next = lanes::lag_block(input.moments, poles, lagged, b, n + 11 - tick, &mut xs);
+        let next = lanes::lag_block(input.moments, poles, lagged, b, n + 11 - tick, &mut ticks);
         for (d, sum) in sums.iter_mut().enumerate() {
-            *sum = sum_block(&xs, input, *sum, d, tick);
+            *sum = sum_block(&ticks, input, *sum, d, tick);
         }
         lagged = next;
     }
     sums
 }
 
-// The fits of pole q, 0 to 2, at all steps: each from the sums of a lane of its whole ticks.
-fn pole_fits(sums: &[LaneSums; 10], shared: Shared, q: usize) -> [Option<GainFit>; 20]
-    requires { q < 3 }
-    ensures { result ≡ fill (λ s l. solved_step sums.now shared q s) (replicate step_count None) step_count }
-{
-    let mut fits = [None; 20];
-    for (s, fit) in fits.iter_mut().enumerate() {
-        let lanes = &sums[s / 2];
-        let h = q * 2 + s % 2;
-        *fit = shared.solve(StepSums {
-            mm: lanes.mm[h],
-            mc: lanes.mc[h],
-            mt: lanes.mt[h],
-        });
-    }
-    fits
+// The sums of three poles at all steps, with those that all fits of the window share.
+#[derive(Clone, Copy)]
+pub struct StepTable {
+    pub sums: [LaneSums; 10],
+    pub shared: Shared,
 }
 
-// The fits of three poles, each at all steps.
-pub fn fit_steps(input: FitInput<'_>, poles: [f32; 3]) -> [[Option<GainFit>; 20]; 3]
-    ensures { result ≡ map (step_fits (fit_of input.entry)) poles }
-{
-    let sums = sum_places(input, poles);
-    [
-        pole_fits(&sums, input.shared, 0),
-        pole_fits(&sums, input.shared, 1),
-        pole_fits(&sums, input.shared, 2),
-    ]
+impl StepTable {
+    // The table of three poles.
+    pub fn new(input: FitInput<'_>, poles: [f32; 3]) -> StepTable
+        ensures { (q : ℕ) → q < 3 → table_fits result q ≡ step_fits (fit_of input.entry) (at poles q) }
+    {
+        StepTable {
+            sums: sum_places(input, poles),
+            shared: input.shared,
+        }
+    }
+
+    // The fits of pole q at all steps, each from the sums of a lane of its whole ticks. A pole above the last of three is read as the last.
+    #[tactic(auto, using(float::proofs::Fill::fill_more), unfolding(float::specs::Series::fill))]
+    pub fn fits(&self, q: usize) -> [Option<GainFit>; 20]
+        ensures { result ≡ table_fits self.now (min q 2) }
+    {
+        let pole = q.min(2);
+        let mut fits = [None; 20];
+        for (s, fit) in fits.iter_mut().enumerate() {
+            let lanes = &self.sums[s / 2];
+            let h = pole * 2 + s % 2;
+            *fit = self.shared.solve(StepSums {
+                mm: lanes.mm[h],
+                mc: lanes.mc[h],
+                mt: lanes.mt[h],
+            });
+        }
+        fits
+    }
 }

@@ -156,6 +156,7 @@ pub fn pole(dt_s: f32, i: usize) -> f32
 }
 
 // What a leaky sum keeps from one tick to the next, at a time constant of 0.1 s.
+#[tactic(auto, unfolding(crate::specs::Lags::carry_of))]
 pub fn carry(dt_s: f32) -> f32
     ensures { result ≡ carry_of dt_s }
 {

@@ -1,3 +1,2 @@
-pub mod Woven
-pub mod Poles
+pub mod Lags
 pub mod Blocks

@@ -1,5 +1,5 @@
--- Six series woven side by side, a block of ticks at a time: how the code keeps the regressors of three poles. The regressor itself is in gain's Gain.antt.
-use Rattle.std.specs.Prelude.{◌≡◌, ℕ, zero, suc, ◌+◌, ◌*◌, ◌/◌, ◌%◌, ◌<◌, List, Float}
+-- Six series side by side, a block of ticks at a time: how the code keeps the regressors of three poles. The regressor itself is in gain's Gain.antt.
+use Rattle.std.specs.Prelude.{◌≡◌, ℕ, zero, suc, ◌+◌, ◌*◌, ◌/◌, ◌%◌, List, [], ◌∷◌, Float}
 use Rattle.std.specs.Float.{binary32}
 use Rattle.std.specs.Float.Ieee.{add, sub, mul}
 use Rattle.float.specs.Values.{one32}
@@ -21,9 +21,13 @@ last_block = 15
 abbrev pub block_moments : (ℕ → Float) → ℕ → ℕ → Float
 block_moments u b i = u (b * block_ticks + i)
 
--- the series of the lanes side by side
-abbrev pub woven : (ℕ → ℕ → Float) → ℕ → List Float → Float
-woven f k l = f (k % lane_count) (k / lane_count)
+-- three values, one to a pole
+abbrev pub each_pole : (ℕ → Float) → List Float
+each_pole f = f 0 ∷ f 1 ∷ f 2 ∷ []
+
+-- six values, one to a lane
+abbrev pub each_lane : (ℕ → Float) → List Float
+each_lane f = f 0 ∷ f 1 ∷ f 2 ∷ f 3 ∷ f 4 ∷ f 5 ∷ []
 
 -- the moments felt in lane h
 abbrev pub lane_series : List Float → (ℕ → Float) → ℕ → ℕ → Float
@@ -34,6 +38,10 @@ unfoldable pub lag_on : Float → Float → (ℕ → Float) → ℕ → Float
 lag_on pole s u zero = s
 lag_on pole s u (suc n) = add binary32 (mul binary32 pole (lag_on pole s u n)) (mul binary32 (sub binary32 one32 pole) (u n))
 
+-- three lags that go on from l
+abbrev pub lags_on : (poles l : List Float) → (ℕ → Float) → ℕ → List Float
+lags_on poles l u n = each_pole (λ q. lag_on (at poles q) (at l q) u n)
+
 -- the moments felt from there on: `felt` of gain, from any start
 unfoldable pub felt_on : Float → Float → (ℕ → Float) → ℕ → ℕ → Float
 felt_on pole s u h j = blend h (lag_on pole s u (suc j)) (lag_on pole s u j)
@@ -42,7 +50,11 @@ felt_on pole s u h j = blend h (lag_on pole s u (suc j)) (lag_on pole s u j)
 abbrev pub lane_on : (poles l : List Float) → (ℕ → Float) → ℕ → ℕ → Float
 lane_on poles l u h = felt_on (at poles (h / 2)) (at l (h / 2)) u (h % 2)
 
--- n ticks of three lags that go on from l: the lanes that are filled into a list, and how the lags stand after them
-pub record Block (poles l : List Float) (u : ℕ → Float) (n : ℕ) (xs₀ xs r : List Float) : Type 0 where
-  pub lanes : xs ≡ fill (woven (lane_on poles l u)) xs₀ (n * lane_count)
-  pub lagged : (q : ℕ) → q < 3 → at r q ≡ lag_on (at poles q) (at l q) u n
+-- the six lanes of tick k
+abbrev pub tick_on : (poles l : List Float) → (ℕ → Float) → ℕ → List Float
+tick_on poles l u k = each_lane (λ h. lane_on poles l u h k)
+
+-- n ticks of three lags that go on from l: the ticks that are filled into a list, and how the lags stand after them
+pub record Block (poles l : List Float) (u : ℕ → Float) (n : ℕ) (ticks₀ ticks : List (List Float)) (r : List Float) : Type 0 where
+  pub lanes : ticks ≡ fill (λ k t. tick_on poles l u k) ticks₀ n
+  pub lagged : r ≡ lags_on poles l u n

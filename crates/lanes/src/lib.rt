@@ -1,12 +1,51 @@
 // The regressors of three poles side by side, a block of ticks at a time, as the grid's loops read them.
 #![tactic(auto)]
 
-ghost use Rattle.std.specs.Prelude.{◌≡◌, min};
+ghost use Rattle.std.specs.Prelude.{◌≡◌, ◌/◌, ◌%◌, min};
+ghost use Rattle.std.specs.Float.{binary32};
+ghost use Rattle.std.specs.Float.Ieee.{add, sub, mul};
+ghost use Rattle.float.specs.Values.{one32};
 ghost use Rattle.float.specs.Series.{at};
-ghost use Rattle.lanes.specs.Lanes.{block_ticks, last_block, block_moments, Block};
+ghost use Rattle.gain.specs.Gain.{blend};
+ghost use Rattle.lanes.specs.Lanes.{each_pole, each_lane, block_ticks, last_block, block_moments, Block};
+
+// One moment through three lags. Side by side they do not wait for each other.
+fn lags_on(poles: [f32; 3], lagged: [f32; 3], moment: f32) -> [f32; 3]
+    ensures { result ≡ each_pole (λ q. add binary32 (mul binary32 (at poles q) (at lagged q)) (mul binary32 (sub binary32 one32 (at poles q)) moment)) }
+{
+    [
+        gain::lag_on(poles[0], lagged[0], moment),
+        gain::lag_on(poles[1], lagged[1], moment),
+        gain::lag_on(poles[2], lagged[2], moment),
+    ]
+}
+
+fn widened(lagged: [f32; 3]) -> [f64; 3]
+    ensures { result ≡ each_pole (at lagged) }
+{
+    [
+        f64::from(lagged[0]),
+        f64::from(lagged[1]),
+        f64::from(lagged[2]),
+    ]
+}
+
+// The six lanes of a tick, from three lags once they have its moment and as they were before.
+fn tick_lanes(newer: [f64; 3], older: [f64; 3]) -> [f64; 6]
+    ensures { result ≡ each_lane (λ h. blend (h % 2) (at newer (h / 2)) (at older (h / 2))) }
+{
+    [
+        gain::blend(false, newer[0], older[0]),
+        gain::blend(true, newer[0], older[0]),
+        gain::blend(false, newer[1], older[1]),
+        gain::blend(true, newer[1], older[1]),
+        gain::blend(false, newer[2], older[2]),
+        gain::blend(true, newer[2], older[2]),
+    ]
+}
 
 // A block of moments through three lags at once, as the regressors of three poles: six lanes a tick, for each pole its whole ticks and then its half ticks.
-// The lags go on from lagged, and what is answered is how they stand after the block. Three lags side by side do not wait for each other.
+// The lags go on from lagged, and what is answered is how they stand after the block.
 // A block past the last of 16 is read as the last, a count above 128 as 128.
 pub fn lag_block(
     moments: &[f32; 2048],
@@ -14,31 +53,21 @@ pub fn lag_block(
     lagged: [f32; 3],
     block: usize,
     count: usize,
-    xs: &mut [f64; 768],
+    ticks: &mut [[f64; 6]; 128],
 ) -> [f32; 3]
-    ensures { Block poles lagged (block_moments (at moments.now) (min block last_block)) (min count block_ticks) xs.old xs.new result }
+    ensures { Block poles lagged (block_moments (at moments.now) (min block last_block)) (min count block_ticks) ticks.old ticks.new result }
 {
     let first = block.min(15) * 128;
     let n = count.min(128);
     let mut on = lagged;
-    let mut last = [
-        f64::from(lagged[0]),
-        f64::from(lagged[1]),
-        f64::from(lagged[2]),
-    ];
-    // By index: each moment makes six places of xs, and of what `chunks_mut` hands out a proof knows only the length.
-    for k in 0..n {
-        let moment = moments[first + k];
-        for q in 0..3usize {
-            let next = gain::lag_on(poles[q], on[q], moment);
-            let now = f64::from(next);
-            let older = last[q];
-            let place = k * 6 + q * 2;
-            xs[place] = gain::blend(false, now, older);
-            xs[place + 1] = gain::blend(true, now, older);
-            on[q] = next;
-            last[q] = now;
-        }
+    let mut older = widened(lagged);
+    // The moments by place: tried, of what `iter_mut` writes beneath `zip` a proof knows nothing after the loop.
+    for (k, tick) in ticks[..n].iter_mut().enumerate() {
+        let next = lags_on(poles, on, moments[first + k]);
+        let newer = widened(next);
+        *tick = tick_lanes(newer, older);
+        on = next;
+        older = newer;
     }
     on
 }

@@ -37,11 +37,11 @@ kept s difference =
     fit_if (all_finite s 6 && finite r && not (is_nan difference)) (solution_of s r)
 
 -- the solution of L Lᵀ s = b, where L's diagonals were above 0
-unfoldable pub solve_if : Bool → List Float → List Float → Float → Option Solution
+unfoldable pub solve_if : Bool → List (List Float) → List Float → Float → Option Solution
 solve_if false l b squared = None
 solve_if true l b squared = let s = backward l (forward l b) in kept s (difference_of squared s b)
 
-unfoldable pub solve_with : List Float → List Float → List Float → Float → Option Solution
+unfoldable pub solve_with : List (List Float) → List (List Float) → List Float → Float → Option Solution
 solve_with l a b squared = solve_if (above a l 6) l b squared
 
 unfoldable pub solve : Sums → Option Solution

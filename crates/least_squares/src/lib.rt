@@ -8,11 +8,13 @@ ghost use Rattle.std.specs.Float.Ieee.{add, mul};
 ghost use Rattle.float.specs.Values.{zero32, finite};
 ghost use Rattle.least_squares.specs.Solve.{kept, IsSolved};
 
+use cholesky::Columns;
+
 // The sums of one delay's least squares over its rows.
 #[derive(Clone, Copy)]
 pub struct Sums {
-    // The normal equations, 6 by 6, column after column.
-    pub normal: [f32; 36],
+    // The normal equations.
+    pub normal: Columns,
     pub projected: [f32; 6],
     pub target_squared: f32,
 }
@@ -37,6 +39,7 @@ fn all_finite(s: &[f32; 6]) -> bool
 }
 
 // The solution with its residual, the difference where that is above 0. No fit where one of them is not finite or the difference is NaN.
+#[tactic(auto, using(crate::proofs::Six::six_finite), unfolding(crate::specs::Solve::kept))]
 fn fit_if_finite(s: &[f32; 6], difference: f32) -> Option<Solution>
     ensures { result ≡ kept s.now difference }
 {

@@ -1,4 +1,5 @@
 // The functions of a probe in flight that the static library exports.
+// C passes words, floats and arrays one by one, and takes a number for an answer, so each function here does, and calls what takes structs and answers a Result.
 #![tactic(auto)]
 
 ghost use Rattle.std.specs.Prelude.{◌≡◌, ◌≢◌};
@@ -9,9 +10,13 @@ ghost use Rattle.probe_words.specs.Layout.{scalars, probe_in};
 ghost use Rattle.live_status.specs.Status.{status_in, status_numbers, status_plain};
 ghost use Rattle.live_probe.specs.Live.{config_by, readied};
 ghost use Rattle.live.specs.Delay.{TellsDelay};
+ghost use Rattle.live.specs.Lent.{live_over};
 ghost use Rattle.live_probe.specs.Flown.{WritesReport, ReportsFlight};
-ghost use Rattle.steady_probe.specs.SteadyLive.{scalars_over, live_over, SteadyOpened, SteadyStepped, steady_readied};
+ghost use Rattle.steady_probe.specs.SteadyLive.{scalars_over, SteadyOpened, SteadyStepped, steady_readied};
 ghost use Rattle.steady_probe.specs.SteadyFlown.{OpensSteady, OpensPlain, SteadyFliesOn, StepsPlain};
+
+use identify::Call;
+use window::LentArrays;
 
 // Opens a probe in its scalars, plain or, with an option of 1, as steady; the arrays of samples, which the other calls take, may hold anything.
 // It answers 0; 9 where an option has no meaning; or the number of the first of the rules 1 to 5 that is broken. On a number nothing is written.
@@ -33,19 +38,15 @@ pub extern "C" fn identify_live_open(
     ensures flown { OpensSteady (config_by amplitude duration_s washout_tc_s extension extension_amplitude extension_duration_s) (scalars_over words floats) steady first_dt_s result }
     ensures plain { options ≢ 1 → OpensPlain options (config_by amplitude duration_s washout_tc_s extension extension_amplitude extension_duration_s) (scalars_over words floats) result }
 {
-    steady_probe::open(
-        words,
-        floats,
-        steady,
-        first_dt_s,
+    let config = live_probe::config_by(
         amplitude,
         duration_s,
         washout_tc_s,
         extension,
         extension_amplitude,
         extension_duration_s,
-        options,
-    )
+    );
+    rules::number_or_0(steady_probe::open(words, floats, steady, first_dt_s, config, options))
 }
 
 // Before a call that reads the marks each byte of them is made 0 or 1, and before any other, one that is turned back among them, nothing is written.
@@ -86,9 +87,16 @@ pub extern "C" fn identify_live_step(
     ensures flown { SteadyFliesOn steady first_dt_s (live_over words floats rates moments offsets held) (call dt rate moment) offset result }
     ensures plain { steady ≡ 0 → StepsPlain first_dt_s (live_over words floats rates moments offsets held) (call dt rate moment) offset result }
 {
-    steady_probe::step(
-        words, floats, steady, first_dt_s, rates, moments, offsets, held, dt, rate, moment, offset,
-    )
+    let mut lent = LentArrays {
+        rates,
+        moments,
+        offsets,
+        held,
+    };
+    let call = Call { dt, rate, moment };
+    rules::number_or_0(steady_probe::step(
+        words, floats, steady, first_dt_s, &mut lent, call, offset,
+    ))
 }
 
 // Where a probe stands: its kind, its delay in half ticks, in whole ticks and the half tick left, whether it has plain units; the six floats of its status; lag and acceleration.

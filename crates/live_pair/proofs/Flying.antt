@@ -22,9 +22,7 @@ use Rattle.live_probe.specs.Flown.{reply_by}
 use Rattle.two_axis.specs.Axes.{Axis, first, second, TwoCall}
 use Rattle.two_axis.specs.Probes.{Probes, fresh_two, step_two, moved, after_two, replies_two}
 use Rattle.two_axis.specs.Accounts.{opened_two, account_two}
-use Rattle.two_axis_probe.specs.declared.TwoStepped.{TwoStepped}
-use Rattle.two_axis_probe.specs.declared.TwoStepped.TheVariants.{Offsets, Ended, Refused}
-use Rattle.two_axis_probe.specs.Stepped.{Structs, Lents, TwoAnswer, probes_of, fresh_two_axis, two_ticked, either_number, number_in, two_answer_by, two_stepped_by, leaves_two, reply_two}
+use Rattle.two_axis_probe.specs.Stepped.{Structs, Lents, TwoAnswer, probes_of, fresh_two_axis, probes_left, lents_left, two_ticked, either_number, number_in, two_answer_by, two_stepped_by, reply_two}
 use Rattle.two_axis_probe.specs.Held.{Stands}
 use Rattle.two_axis_probe.proofs.Flying.{begins, holds, replies_on, goes_on}
 use Rattle.two_axis_report.specs.TwoReport.{report_two, reports_of}
@@ -45,22 +43,37 @@ fresh_back c first = back (probes_of (fresh_two_axis c) first) (omega arith)
 fresh_back c second = back (probes_of (fresh_two_axis c) second) (omega arith)
 
 -- the probe that is read after a call is the one that the call leaves
-reads : (r : TwoStepped) (s : Axis → Scalars) (x : Axis) → let p : Structs = λ x. probe_in (s x) in (leaves_two r p x).window.len ≤ capacity → probe_in (scalars_after_two r x (s x)) ≡ leaves_two r p x
-unfolding leaves_two scalars_after_two
-reads (Offsets o n q) s x h = back (probes_of q x) h
-reads Ended s x h = refl
-reads (Refused n) s x h = refl
+module _ (s : Axis → Scalars) (l : Lents) (y : TwoCall) where
+  abbrev held : Structs
+  held x = probe_in (s x)
+
+  abbrev ReadsOn : TwoAnswer → Axis → Type 0
+  ReadsOn a x = (probes_left a x).window.len ≤ capacity → probe_in (scalars_after_two a.answer (probes_left a) x (s x)) ≡ probes_left a x
+
+  reads_by : (n : ℕ) (t u : Option Float) (x : Axis) → ReadsOn (two_answer_by n t u held l y) x
+  unfolding two_answer_by two_ticked scalars_after_two
+  reads_by (suc n) t u first h = refl
+  reads_by (suc n) t u second h = refl
+  reads_by zero None u first h = refl
+  reads_by zero None u second h = refl
+  reads_by zero (Some e) None first h = refl
+  reads_by zero (Some e) None second h = refl
+  reads_by zero (Some e) (Some d) x h = back _ h
+
+  reads : (x : Axis) → ReadsOn (two_stepped_by held l y) x
+  unfolding two_stepped_by
+  reads x = reads_by (either_number (number_in held y.dt first) (number_in held y.dt second)) (clock (held first).status) (clock (held second).status) x
 
 -- the number and the offset are the reply
 module _ (p : Structs) (l : Lents) (y : TwoCall) (found : Float) (x : Axis) where
-  replies_by : (n : ℕ) (t u : Option Float) → let r = (two_answer_by n t u p l y).result in reply_by (number (reply_two r first)) (offset_after_two r x found) ≡ reply_two r x
+  replies_by : (n : ℕ) (t u : Option Float) → let r = (two_answer_by n t u p l y).answer in reply_by (number (reply_two r first)) (offset_after_two r x found) ≡ reply_two r x
   unfolding two_answer_by two_ticked reply_by number reply_two offset_after_two
   replies_by (suc n) t u = refl
   replies_by zero None u = refl
   replies_by zero (Some e) None = refl
   replies_by zero (Some e) (Some d) = refl
 
-  replied : let r = (two_stepped_by p l y).result in reply_by (number (reply_two r first)) (offset_after_two r x found) ≡ reply_two r x
+  replied : let r = (two_stepped_by p l y).answer in reply_by (number (reply_two r first)) (offset_after_two r x found) ≡ reply_two r x
   unfolding two_stepped_by
   replied = replies_by (either_number (number_in p y.dt first) (number_in p y.dt second)) (clock (p first).status) (clock (p second).status)
 
@@ -80,14 +93,14 @@ module _ {c : IdentifyConfig} {calls : List TwoCall} (k next : Pair) (y : TwoCal
     abbrev answer : TwoAnswer
     answer = two_stepped_by (pair_probes k) (pair_lents k) y
 
-    left_is : (x : Axis) → next x ≡ live (scalars_after_two answer.result x (k x).scalars) (answer.lent x)
+    left_is : (x : Axis) → next x ≡ live (scalars_after_two answer.answer (probes_left answer) x (k x).scalars) (lents_left answer x)
     unfolding pair_step
     left_is = left
 
-    read : (x : Axis) → live_probe (next x) ≡ leaves_two answer.result (pair_probes k) x
-    read x = ap live_probe (left_is x) ∙ reads answer.result (λ x. (k x).scalars) x ((goes_on st y).within x)
+    read : (x : Axis) → live_probe (next x) ≡ probes_left answer x
+    read x = ap live_probe (left_is x) ∙ reads (λ x. (k x).scalars) (pair_lents k) y x ((goes_on st y).within x)
 
-    lents : (x : Axis) → (next x).lent ≡ answer.lent x
+    lents : (x : Axis) → (next x).lent ≡ lents_left answer x
     lents x = ap (λ (z : Live). z.lent) (left_is x)
 
     stands_on : Stands c (calls ++ (y ∷ [])) (pair_probes next) (pair_lents next)

@@ -13,14 +13,6 @@ use Rattle.marks.specs.Marks.{KeepsMarks}
 use Rattle.two_axis.specs.Axes.{Axis, first, second}
 use Rattle.live_pair.specs.Pair.{accepted_by, accepted, pair_readied}
 
--- the two tests of the code
-pub accepts_by : (n : ℕ) (time : Option Float) → (is_some time && eqb n 0) ≡ accepted_by n time
-unfolding accepted_by
-accepts_by zero None = refl
-accepts_by zero (Some e) = refl
-accepts_by (suc n) None = refl
-accepts_by (suc n) (Some e) = eqb-suc-zero n
-
 module _ (s : Axis → Scalars) (dt : Float) where
   pub by_both : accepted (probe_in (s first)) dt ≡ true → accepted (probe_in (s second)) dt ≡ true → (x : Axis) (bytes : List ℕ) → readied (probe_in (s x)) dt bytes ≡ pair_readied s x dt bytes
   unfolding pair_readied

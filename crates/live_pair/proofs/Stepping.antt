@@ -6,11 +6,16 @@ use Rattle.account.specs.declared.IdentifyConfig.{IdentifyConfig}
 use Rattle.account.specs.Rules.{broken}
 use Rattle.account.specs.Probe.{number}
 use Rattle.probe_words.specs.Layout.{Scalars, scalars_of}
-use Rattle.live_probe.specs.Live.{live}
+use Rattle.live_probe.specs.Live.{live, live_probe}
 use Rattle.two_axis.specs.Axes.{Axis, first, second, axes, TwoCall}
-use Rattle.two_axis_probe.specs.declared.TwoStepped.{TwoStepped}
-use Rattle.two_axis_probe.specs.Stepped.{Structs, Lents, TwoAnswer, probes_of, fresh_two_axis, two_stepped_by, reply_two}
-use Rattle.two_axis_probe.proofs.Ticking.{by_axis}
+use Rattle.std.specs.Prelude.{Option, Result, Ok, Err}
+use Rattle.identify.specs.declared.IdentifyProbe.{IdentifyProbe}
+use native.Mathlib.Omega.{arith}
+use Rattle.window.specs.declared.LentArrays.{LentArrays}
+use Rattle.window.specs.Lent.{Lent, arrays_in}
+use Rattle.two_axis_probe.specs.declared.TwoAxisProbe.{TwoAxisProbe}
+use Rattle.two_axis_probe.specs.Stepped.{Structs, Lents, TwoAnswer, probes_of, lents_of, fresh_two_axis, two_opened_by, probes_left, lents_left, two_stepped_by, answer_of, reply_two}
+use Rattle.two_axis_probe.proofs.Flying.{by_axis}
 use Rattle.live_pair.specs.Pair.{Pair, pair_probes, pair_lents, pair_opening, pair_open_by, pair_open, scalars_after_two, offset_after_two, pair_flight, pair_step}
 
 -- an opening
@@ -20,35 +25,44 @@ module _ (c : IdentifyConfig) (s : Axis → Scalars) where
   unknown zero n = absurd (n refl)
   unknown (suc options) n = refl
 
-  refused : (n : ℕ) → (n ≡ 0 → ⊥) → pair_opening n s ≡ pair_open_by n c s
-  unfolding pair_open_by
-  refused zero k = absurd (k refl)
-  refused (suc n) k = refl
+  refused_by : (b n : ℕ) → two_opened_by b c ≡ Err n → pair_opening n s ≡ pair_open_by b c s
+  unfolding two_opened_by pair_open_by
+  refused_by zero n h = absurd (let z : ◌≡◌ {A = ℕ} 0 1 = cc in omega arith)
+  refused_by (suc b) n h = let same : suc b ≡ n = cc in rw same
 
-  module _ (options : ℕ) (e : options ≡ 0) (n : ℕ) (h : n ≡ broken c) where
-    pub turned_away : (n ≡ 0 → ⊥) → pair_opening n s ≡ pair_open options c s
+  opens_so : (b : ℕ) (p : TwoAxisProbe) → two_opened_by b c ≡ Ok p → (t : Axis → Scalars) → ((x : Axis) → t x ≡ scalars_of (probes_of p x)) → pair_opening 0 t ≡ pair_open_by b c s
+  unfolding two_opened_by pair_open_by
+  opens_so zero p h t is = let same : p ≡ fresh_two_axis c = cc in ap (pair_opening 0) (fun_ext (λ x. is x ∙ ap (λ (q : TwoAxisProbe). scalars_of (probes_of q x)) same))
+  opens_so (suc b) p h t is = absurd (let z : ◌≡◌ {A = ℕ} 0 1 = cc in omega arith)
+
+  module _ (options : ℕ) (e : options ≡ 0) where
+    pub turned_away : (n : ℕ) → two_opened_by (broken c) c ≡ Err n → pair_opening n s ≡ pair_open options c s
     unfolding pair_open
-    turned_away k = rw (e, ← h) (refused n k)
+    turned_away n h = rw e (refused_by (broken c) n h)
 
-    pub opens : n ≡ 0 → (t : Axis → Scalars) → ((x : Axis) → t x ≡ scalars_of (probes_of (fresh_two_axis c) x)) → pair_opening 0 t ≡ pair_open options c s
-    unfolding pair_open pair_open_by
-    opens z t is = rw (e, ← h, z) (ap (pair_opening 0) (fun_ext is))
+    pub opens : (p : TwoAxisProbe) → two_opened_by (broken c) c ≡ Ok p → (t : Axis → Scalars) → ((x : Axis) → t x ≡ scalars_of (probes_of p x)) → pair_opening 0 t ≡ pair_open options c s
+    unfolding pair_open
+    opens p h t is = rw e (opens_so (broken c) p h t is)
 
 -- a call
-module _ (k : Pair) (y : TwoCall) (found : Axis → Float) where
-  pub stepped : (p : Structs) (m : Lents) (s : Axis → Scalars) (r : TwoStepped) (l : Lents) (n : ℕ) (o1 o2 : Float) (t : Axis → Scalars)
-      → ((x : Axis) → p x ≡ pair_probes k x) → ((x : Axis) → m x ≡ pair_lents k x) → ((x : Axis) → s x ≡ (k x).scalars)
-      → r ≡ (two_stepped_by p m y).result → ((x : Axis) → l x ≡ (two_stepped_by p m y).lent x)
-      → n ≡ number (reply_two r first) → o1 ≡ offset_after_two r first (found first) → o2 ≡ offset_after_two r second (found second) → ((x : Axis) → t x ≡ scalars_after_two r x (s x))
-      → pair_flight n (axes o1 o2) (axes (live (t first) (l first)) (live (t second) (l second))) ≡ pair_step k y found
-  unfolding pair_step
-  stepped p m s r l n o1 o2 t hp hm hs hr hl hn h1 h2 ht =
-      let same : two_stepped_by p m y ≡ two_stepped_by (pair_probes k) (pair_lents k) y = ap₂ (λ (q : Structs) (j : Lents). two_stepped_by q j y) (fun_ext hp) (fun_ext hm) in
-      let answer : r ≡ (two_stepped_by (pair_probes k) (pair_lents k) y).result = hr ∙ ap (λ (a : TwoAnswer). a.result) same in
-      let kept : (x : Axis) → live (t x) (l x) ≡ live (scalars_after_two (two_stepped_by (pair_probes k) (pair_lents k) y).result x (k x).scalars) ((two_stepped_by (pair_probes k) (pair_lents k) y).lent x) =
-      λ x. ap₂ live (ht x ∙ ap₂ (λ (q : TwoStepped) (z : Scalars). scalars_after_two q x z) answer (hs x)) (hl x ∙ ap (λ (a : TwoAnswer). a.lent x) same) in
-      let number_is : n ≡ (pair_step k y found).result = hn ∙ ap (λ (q : TwoStepped). number (reply_two q first)) answer in
-      let offsets : (x : Axis) → axes o1 o2 x ≡ (pair_step k y found).offset x =
-      by_axis _ (h1 ∙ ap (λ (q : TwoStepped). offset_after_two q first (found first)) answer) (h2 ∙ ap (λ (q : TwoStepped). offset_after_two q second (found second)) answer) in
-      let left : (x : Axis) → axes (live (t first) (l first)) (live (t second) (l second)) x ≡ (pair_step k y found).left x = by_axis _ (kept first) (kept second) in
-      λ i. pair_flight (number_is i) (fun_ext offsets i) (fun_ext left i)
+module _ (k : Pair) (y : TwoCall) where
+  abbrev pub answer : TwoAnswer
+  answer = two_stepped_by (pair_probes k) (pair_lents k) y
+
+  -- the probes and the arrays as the code has them are those that are kept
+  pub same : (p : TwoAxisProbe) (lent1 lent2 : LentArrays) → p.first ≡ live_probe (k first) → p.second ≡ live_probe (k second)
+      → arrays_in lent1 ≡ (k first).lent → arrays_in lent2 ≡ (k second).lent → answer_of p lent1 lent2 y ≡ answer
+  same p lent1 lent2 p1 p2 l1 l2 =
+      ap₂ (λ (q : Structs) (j : Lents). two_stepped_by q j y) (fun_ext (by_axis (λ x. probes_of p x ≡ pair_probes k x) p1 p2)) (fun_ext (by_axis (λ x. lents_of lent1 lent2 x ≡ pair_lents k x) l1 l2))
+
+  -- an answer w, and what it leaves of both axes, put together
+  module _ (found : Axis → Float) (w : Result (Option (Float × Float)) ℕ) (p q : IdentifyProbe) (l m : Lent) where
+    pub stepped : w ≡ answer.answer → p ≡ answer.first → q ≡ answer.second → l ≡ answer.lent1 → m ≡ answer.lent2
+        → pair_flight (number (reply_two w first)) (axes (offset_after_two w first (found first)) (offset_after_two w second (found second)))
+        (axes (live (scalars_after_two w (axes p q) first (k first).scalars) l) (live (scalars_after_two w (axes p q) second (k second).scalars) m)) ≡ pair_step k y found
+    unfolding pair_step
+    stepped hw hp hq hl hm =
+        let put : (x : Axis) → axes (live (scalars_after_two w (axes p q) first (k first).scalars) l) (live (scalars_after_two w (axes p q) second (k second).scalars) m) x
+        ≡ live (scalars_after_two answer.answer (probes_left answer) x (k x).scalars) (lents_left answer x) = by_axis _ (rw (hw, hp, hq, hl)) (rw (hw, hp, hq, hm)) in
+        let offsets : (x : Axis) → axes (offset_after_two w first (found first)) (offset_after_two w second (found second)) x ≡ offset_after_two answer.answer x (found x) = by_axis _ (rw hw) (rw hw) in
+        λ i. pair_flight (number (reply_two (hw i) first)) (fun_ext offsets i) (fun_ext put i)

@@ -1,20 +1,19 @@
 -- A pair of probes that their caller keeps and steps: what each call answers, and what it leaves of all that it was lent. An axis's part is what a caller keeps of a single probe.
 use Rattle.std.specs.Prelude.{ℕ, zero, suc, ◌≡◌, Bool, true, false, ◌&&◌, cond, List, Float}
-use Rattle.std.specs.Borrow.{Bor, MutBor}
+use Rattle.std.specs.Borrow.{Bor}
 use denote.Triple.Both.{Both}
-use Rattle.std.specs.Prelude.{Option, Some, None}
+use Rattle.std.specs.Prelude.{Option, Some, None, Result, Ok, Err}
 use Rattle.float.specs.Values.{zero32}
+use Rattle.window.specs.declared.LentArrays.{LentArrays}
 use Rattle.window.specs.Lent.{Borrowed}
 use Rattle.account.specs.declared.IdentifyConfig.{IdentifyConfig}
 use Rattle.account.specs.Rules.{broken, refusal}
 use Rattle.account.specs.Probe.{number, clock}
 use Rattle.identify.specs.declared.IdentifyProbe.{IdentifyProbe}
 use Rattle.probe_words.specs.Layout.{Scalars, scalars, found_in, left_in, probe_in, scalars_of}
-use Rattle.live_probe.specs.Live.{Live, live, live_found, live_left, live_probe, readied}
+use Rattle.live_probe.specs.Live.{Written, Live, live, live_found, live_left, live_probe, readied}
 use Rattle.two_axis.specs.Axes.{Axis, first, second, axes, TwoCall}
-use Rattle.two_axis_probe.specs.declared.TwoStepped.{TwoStepped}
-use Rattle.two_axis_probe.specs.declared.TwoStepped.TheVariants.{Offsets, Ended, Refused}
-use Rattle.two_axis_probe.specs.Stepped.{Structs, Lents, probes_of, fresh_two_axis, two_stepped_by, reply_two}
+use Rattle.two_axis_probe.specs.Stepped.{Structs, Lents, probes_of, fresh_two_axis, probes_left, lents_left, two_stepped_by, reply_two}
 
 -- all that the caller keeps of both axes
 abbrev pub Pair : Type 0
@@ -35,16 +34,14 @@ scalars_over words1 floats1 words2 floats2 = record {
 }
 
 -- all that is kept of both
-abbrev pub pair_over :
-    Borrowed ℕ → (floats1 rates1 moments1 offsets1 : Borrowed Float) → Borrowed Bool → Borrowed ℕ → (floats2 rates2 moments2 offsets2 : Borrowed Float) → Borrowed Bool
-    → Both Pair Pair
-pair_over words1 floats1 rates1 moments1 offsets1 held1 words2 floats2 rates2 moments2 offsets2 held2 = record {
-  entry = axes (live_found words1 floats1 rates1 moments1 offsets1 held1) (live_found words2 floats2 rates2 moments2 offsets2 held2);
-  exit = axes (live_left words1 floats1 rates1 moments1 offsets1 held1) (live_left words2 floats2 rates2 moments2 offsets2 held2);
+abbrev pub kept_over : Borrowed ℕ → Borrowed Float → Written LentArrays → Borrowed ℕ → Borrowed Float → Written LentArrays → Both Pair Pair
+kept_over words1 floats1 lent1 words2 floats2 lent2 = record {
+  entry = axes (live_found words1 floats1 lent1) (live_found words2 floats2 lent2);
+  exit = axes (live_left words1 floats1 lent1) (live_left words2 floats2 lent2);
 }
 
 -- where the offsets go
-abbrev pub offsets_over : (offset1 offset2 : Both (MutBor Float) (MutBor Float)) → Both (Axis → Float) (Axis → Float)
+abbrev pub offsets_over : (offset1 offset2 : Written Float) → Both (Axis → Float) (Axis → Float)
 offsets_over offset1 offset2 = record { entry = axes offset1.entry.now offset2.entry.now; exit = axes offset1.exit.now offset2.exit.now }
 
 -- what is only read
@@ -90,22 +87,22 @@ pub record PairFlight : Type 0 where
 abbrev pub pair_flight : ℕ → (Axis → Float) → Pair → PairFlight
 pair_flight n offset k = record { result = n; offset = offset; left = k }
 
--- an axis's scalars, and its offset's place: a refused call, and one after the end, leave the scalars; the offset is then left, or 0
-unfoldable pub scalars_after_two : TwoStepped → Axis → Scalars → Scalars
-scalars_after_two (Offsets x y q) a s = scalars_of (probes_of q a)
-scalars_after_two Ended a s = s
-scalars_after_two (Refused n) a s = s
+-- an axis's scalars, which are written where the pair moves on, and its offset's place: a refused call, and one after the end, leave the scalars; the offset is then left, or 0
+unfoldable pub scalars_after_two : Result (Option (Float × Float)) ℕ → Structs → Axis → Scalars → Scalars
+scalars_after_two (Ok (Some x)) next a s = scalars_of (next a)
+scalars_after_two (Ok None) next a s = s
+scalars_after_two (Err n) next a s = s
 
-unfoldable pub offset_after_two : TwoStepped → Axis → Float → Float
-offset_after_two (Offsets x y q) a found = axes x y a
-offset_after_two Ended a found = zero32
-offset_after_two (Refused n) a found = found
+unfoldable pub offset_after_two : Result (Option (Float × Float)) ℕ → Axis → Float → Float
+offset_after_two (Ok (Some x)) a found = axes x.0 x.1 a
+offset_after_two (Ok None) a found = zero32
+offset_after_two (Err n) a found = found
 
 -- the step of the probes that stand in the scalars and the arrays
 unfoldable pub pair_step : Pair → TwoCall → (Axis → Float) → PairFlight
 pair_step k c found =
     let a = two_stepped_by (pair_probes k) (pair_lents k) c in
-    pair_flight (number (reply_two a.result first)) (λ x. offset_after_two a.result x (found x)) (λ x. live (scalars_after_two a.result x (k x).scalars) (a.lent x))
+    pair_flight (number (reply_two a.answer first)) (λ x. offset_after_two a.answer x (found x)) (λ x. live (scalars_after_two a.answer (probes_left a) x (k x).scalars) (lents_left a x))
 
 -- a call of what is kept here, with its offsets here, answers n
 abbrev pub PairStepped : Both Pair Pair → TwoCall → Both (Axis → Float) (Axis → Float) → ℕ → Type 0

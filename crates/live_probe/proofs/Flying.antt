@@ -2,7 +2,7 @@
 -- So it holds the account, and a byte run of the same calls writes its report and its answers.
 use Prim.Native.Nat.{ℕ, zero, suc, ◌≤◌}
 use mathlib.Core.Path.{◌≡◌, refl, sym, ap, ◌∙◌}
-use Rattle.std.specs.Prelude.{Option, Some, None}
+use Rattle.std.specs.Prelude.{Option, Some, None, Result, Ok, Err}
 use mathlib.Core.List.{List, [], ◌∷◌, ◌++◌}
 use native.Mathlib.Omega.{arith}
 use lib.Ieee.{Float}
@@ -13,10 +13,7 @@ use Rattle.account.specs.Rules.{broken, refusal}
 use Rattle.account.specs.Probe.{Call, Probe, Reply, Step, number, clock, fresh, step, after, replies}
 use Rattle.account.specs.Account.{opened as opened_account, account}
 use Rattle.identify.specs.declared.IdentifyProbe.{IdentifyProbe}
-use Rattle.identify.specs.declared.Opened.TheVariants as opened
-use Rattle.identify.specs.declared.Stepped.{Stepped}
-use Rattle.identify.specs.declared.Stepped.TheVariants.{Offset, Ended, Refused}
-use Rattle.identify.specs.Seen.{seen, fresh_probe_at, fresh_probe, opened_by, ticked, answer_by, stepped_by, leaves, reply_of}
+use Rattle.identify.specs.Seen.{seen, fresh_probe_at, fresh_probe, opened_by, Answer, ticked, answer_by, stepped_by, reply_of}
 use Rattle.identify.specs.Made.{Made, by_new}
 use Rattle.identify.specs.Made as make
 use Rattle.identify.proofs.Stepping.{steps}
@@ -33,7 +30,7 @@ use Rattle.live_probe.specs.Live.{Live, Flight, Opening, live, live_probe, openi
 use Rattle.live_probe.specs.Flown.{Flown, by_open, by_step, Flies, reply_by}
 
 -- an opening that answers 0 wrote the fresh probe
-opened_fresh : (b : ℕ) (c : IdentifyConfig) (s t : Scalars) → opening 0 t ≡ open_by b c s → (opened.Probe (fresh_probe c) ≡ opened_by b c) × (t ≡ scalars_of (fresh_probe c))
+opened_fresh : (b : ℕ) (c : IdentifyConfig) (s t : Scalars) → opening 0 t ≡ open_by b c s → (Ok (fresh_probe c) ≡ opened_by b c) × (t ≡ scalars_of (fresh_probe c))
 unfolding open_by opened_by
 opened_fresh zero c s t e = (refl, ap (λ (o : Opening). o.scalars) e)
 opened_fresh (suc n) c s t e = absurd (let z : 0 ≡ suc n = ap (λ (o : Opening). o.result) e in omega arith)
@@ -42,21 +39,26 @@ fresh_back : (c : IdentifyConfig) → probe_in (scalars_of (fresh_probe c)) ≡ 
 fresh_back c = back (fresh_probe c) (unfold fresh_probe_at in omega arith)
 
 -- the probe that is read after a call is the one that the call leaves
-reads : (r : Stepped) (s : Scalars) → (leaves r (probe_in s)).window.len ≤ capacity → probe_in (scalars_after r s) ≡ leaves r (probe_in s)
-unfolding leaves scalars_after
-reads (Offset x q) s h = back q h
-reads Ended s h = refl
-reads (Refused n) s h = refl
+module _ (l : Lent) (y : Call) (s : Scalars) where
+  reads_by : (n : ℕ) (t : Option Float) → let a = answer_by n t (probe_in s) l y in a.probe.window.len ≤ capacity → probe_in (scalars_after a.answer a.probe s) ≡ a.probe
+  unfolding answer_by ticked scalars_after
+  reads_by (suc n) t h = refl
+  reads_by zero None h = refl
+  reads_by zero (Some e) h = back _ h
+
+  reads : let a = stepped_by (probe_in s) l y in a.probe.window.len ≤ capacity → probe_in (scalars_after a.answer a.probe s) ≡ a.probe
+  unfolding stepped_by
+  reads = let e = clock (probe_in s).status in reads_by (refusal e (probe_in s).ticks y.dt) e
 
 -- the number and the offset are the reply
 module _ (p : IdentifyProbe) (l : Lent) (y : Call) (found : Float) where
-  replies_by : (n : ℕ) (t : Option Float) → let r = (answer_by n t p l y).result in reply_by (number (reply_of r)) (offset_after r found) ≡ reply_of r
+  replies_by : (n : ℕ) (t : Option Float) → let r = (answer_by n t p l y).answer in reply_by (number (reply_of r)) (offset_after r found) ≡ reply_of r
   unfolding answer_by ticked reply_by number reply_of offset_after
   replies_by (suc n) t = refl
   replies_by zero None = refl
   replies_by zero (Some e) = refl
 
-  replied : let r = (stepped_by p l y).result in reply_by (number (reply_of r)) (offset_after r found) ≡ reply_of r
+  replied : let r = (stepped_by p l y).answer in reply_by (number (reply_of r)) (offset_after r found) ≡ reply_of r
   unfolding stepped_by
   replied = let e = clock p.status in replies_by (refusal e p.ticks y.dt) e
 
@@ -72,16 +74,16 @@ pub made : {c : IdentifyConfig} {calls : List Call} {answers : List Reply} {k : 
 unfolding replies
 made {c} (by_open s {t} e w) =
     let (o, is) = opened_fresh (broken c) c s t (unfold live_open in e) in
-    (by_new (ap opened.Probe (ap probe_in is ∙ fresh_back c) ∙ o) w, refl)
+    (by_new (ap Ok (ap probe_in is ∙ fresh_back c) ∙ o) w, refl)
 made {c} (by_step {calls} {answers} {k} {next} {n} {x} found y f e) =
     let (m, rs) = made f in
     let (sees, whole, _) = makes m in
     let p = live_probe k in
     let a = stepped_by p k.lent y in
-    let more = make.by_step {k = a.lent} {r = a.result} y m refl refl in
-    let is : flight n x next ≡ flight (number (reply_of a.result)) (offset_after a.result found) (live (scalars_after a.result k.scalars) a.lent) = unfold live_step in e in
+    let more = make.by_step {q = a.probe} {k = a.lent} y m refl refl in
+    let is : flight n x next ≡ flight (number (reply_of a.answer)) (offset_after a.answer found) (live (scalars_after a.answer a.probe k.scalars) a.lent) = unfold live_step in e in
     let left = ap (λ (z : Flight). z.left) is in
-    let read = ap live_probe left ∙ reads a.result k.scalars (makes more).2 in (
+    let read = ap live_probe left ∙ reads k.lent y k.scalars (makes more).2 in (
       rw (read, ap (λ (z : Live). z.lent) left) more,
       rw (rs, replies_so c calls k next n found x y sees whole e) (sym (replies_more (fresh c) calls y)),
     )

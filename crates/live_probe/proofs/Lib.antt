@@ -1,4 +1,3 @@
 pub mod Opening
-pub mod Stepping
 pub mod Flying
 pub mod Marks

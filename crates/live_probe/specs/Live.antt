@@ -1,16 +1,17 @@
 -- A probe that its caller keeps and steps: what each call answers, and what it leaves of all that it was lent.
 use Rattle.std.specs.Prelude.{ℕ, zero, suc, Bool, false, not, cond, List, Float}
-use Rattle.std.specs.Prelude.{Option, Some, None}
+use Rattle.std.specs.Prelude.{Option, Some, None, Result, Ok, Err}
+use Rattle.std.specs.Borrow.{MutBor}
+use denote.Triple.Both.{Both}
 use Rattle.std.specs.Float.{binary32}
 use Rattle.std.specs.Float.Ieee.{add, lt}
 use Rattle.float.specs.Values.{zero32}
-use Rattle.window.specs.Lent.{Lent, Borrowed, at_entry, at_exit}
+use Rattle.window.specs.declared.LentArrays.{LentArrays}
+use Rattle.window.specs.Lent.{Lent, Borrowed, arrays_in}
 use Rattle.account.specs.declared.IdentifyConfig.{IdentifyConfig}
 use Rattle.account.specs.Rules.{broken, refusal}
 use Rattle.account.specs.Probe.{Call, number, clock}
 use Rattle.identify.specs.declared.IdentifyProbe.{IdentifyProbe}
-use Rattle.identify.specs.declared.Stepped.{Stepped}
-use Rattle.identify.specs.declared.Stepped.TheVariants.{Offset, Ended, Refused}
 use Rattle.identify.specs.Seen.{fresh_probe, stepped_by, reply_of}
 use Rattle.probe_words.specs.Layout.{Scalars, found_in, left_in, noisy_by, probe_in, scalars_of}
 use Rattle.marks.specs.Marks.{settled}
@@ -26,12 +27,16 @@ live s l = record { scalars = s; lent = l }
 abbrev pub live_probe : Live → IdentifyProbe
 live_probe k = probe_in k.scalars
 
--- as a contract names its parts: when the call starts, and when it returns
-abbrev pub live_found : Borrowed ℕ → (floats rates moments offsets : Borrowed Float) → Borrowed Bool → Live
-live_found words floats rates moments offsets held = live (found_in words floats) (at_entry rates moments offsets held)
+-- a value as a contract names it, that a call may write: when the call starts, and when it returns
+abbrev pub Written : Type 0 → Type 0
+Written A = Both (MutBor A) (MutBor A)
 
-abbrev pub live_left : Borrowed ℕ → (floats rates moments offsets : Borrowed Float) → Borrowed Bool → Live
-live_left words floats rates moments offsets held = live (left_in words floats) (at_exit rates moments offsets held)
+-- all that is kept, from its parts
+abbrev pub live_found : Borrowed ℕ → Borrowed Float → Written LentArrays → Live
+live_found words floats lent = live (found_in words floats) (arrays_in lent.entry.now)
+
+abbrev pub live_left : Borrowed ℕ → Borrowed Float → Written LentArrays → Live
+live_left words floats lent = live (left_in words floats) (arrays_in lent.exit.now)
 
 -- ---- open
 abbrev pub config_by : (amplitude duration washout : Float) → ℕ → (extension_amplitude extension_duration : Float) → IdentifyConfig
@@ -70,22 +75,22 @@ pub record Flight : Type 0 where
 abbrev pub flight : ℕ → Float → Live → Flight
 flight n x k = record { result = n; offset = x; left = k }
 
--- the scalars, and the offset's place: "6 to 8 leave the probe unchanged"; "An ended probe answers 0.0 to a good dt, unchanged."
-unfoldable pub scalars_after : Stepped → Scalars → Scalars
-scalars_after (Offset x q) s = scalars_of q
-scalars_after Ended s = s
-scalars_after (Refused n) s = s
+-- the scalars, which are written where the probe moves on, and the offset's place: "6 to 8 leave the probe unchanged"; "An ended probe answers 0.0 to a good dt, unchanged."
+unfoldable pub scalars_after : Result (Option Float) ℕ → IdentifyProbe → Scalars → Scalars
+scalars_after (Ok (Some x)) next s = scalars_of next
+scalars_after (Ok None) next s = s
+scalars_after (Err n) next s = s
 
-unfoldable pub offset_after : Stepped → Float → Float
-offset_after (Offset x q) found = x
-offset_after Ended found = zero32
-offset_after (Refused n) found = found
+unfoldable pub offset_after : Result (Option Float) ℕ → Float → Float
+offset_after (Ok (Some x)) found = x
+offset_after (Ok None) found = zero32
+offset_after (Err n) found = found
 
 -- the step of the probe that stands in the scalars and the arrays
 unfoldable pub live_step : Live → Call → Float → Flight
 live_step k c found =
     let a = stepped_by (live_probe k) k.lent c in
-    flight (number (reply_of a.result)) (offset_after a.result found) (live (scalars_after a.result k.scalars) a.lent)
+    flight (number (reply_of a.answer)) (offset_after a.answer found) (live (scalars_after a.answer a.probe k.scalars) a.lent)
 
 -- ---- marks
 -- whether a call reads the marks, by the number that turns it back and the elapsed time of a probe that runs: it is not "Elapsed below duration_s: go on"

@@ -4,96 +4,85 @@
 ghost use Rattle.std.specs.Prelude.{◌≡◌};
 ghost use Rattle.marks.specs.Marks.{KeepsMarks};
 ghost use Rattle.account.specs.Rules.{refusal};
-ghost use Rattle.account.specs.Probe.{number};
-ghost use Rattle.identify.specs.Seen.{call, reply_of};
+ghost use Rattle.rules.specs.Numbers.{numbered};
+ghost use Rattle.identify.specs.Seen.{call_of, SameArrays};
 ghost use Rattle.probe_words.specs.Layout.{scalars, found_in, left_in, probe_in};
-ghost use Rattle.live_probe.specs.Live.{live_found, live_left, config_by, opening, live_open, flight, scalars_after, offset_after, live_step, reads_marks, readied};
+ghost use Rattle.live_probe.specs.Live.{live_found, live_left, config_by, opening, live_open, flight, live_step, reads_marks, readied};
 ghost use Rattle.live_probe.specs.Flown.{OpensFlight, FliesOn, WritesReport, ReportsFlight};
 
 use account::IdentifyConfig;
-use identify::{IdentifyProbe, Opened, Stepped};
+use identify::{Call, IdentifyProbe};
+use rules::Rule;
+use window::LentArrays;
 
 // ---- open
 
-// Opens a probe in its scalars; the arrays of samples may hold anything. It answers 0; 9 where an option has no meaning; or the number of the first of the rules 1 to 5 that is broken. On a number nothing is written.
-pub fn open(
-    words: &mut [u32; 8],
-    floats: &mut [f32; 14],
+// A configuration from its six numbers; a flag of 0 is no extension.
+pub fn config_by(
     amplitude: f32,
     duration_s: f32,
     washout_tc_s: f32,
     extension: u32,
     extension_amplitude: f32,
     extension_duration_s: f32,
-    options: u32,
-) -> u32
-    ensures opening { opening result (left_in words floats) ≡ live_open options (config_by amplitude duration_s washout_tc_s extension extension_amplitude extension_duration_s) (found_in words floats) }
-    ensures flown { OpensFlight (config_by amplitude duration_s washout_tc_s extension extension_amplitude extension_duration_s) result (left_in words floats) }
+) -> IdentifyConfig
+    ensures { result ≡ config_by amplitude duration_s washout_tc_s extension extension_amplitude extension_duration_s }
 {
-    if options != 0 {
-        return 9;
-    }
-    let noisy = probe_words::noisy_by(extension, extension_amplitude, extension_duration_s);
-    match IdentifyProbe::new(IdentifyConfig {
+    IdentifyConfig {
         amplitude,
         duration_s,
         washout_tc_s,
-        noisy,
-    }) {
-        Opened::Refused(number) => number,
-        Opened::Probe(probe) => {
-            probe_writing::write_probe(words, floats, probe);
-            0
-        }
+        noisy: probe_words::noisy_by(extension, extension_amplitude, extension_duration_s),
     }
+}
+
+// Opens a probe in its scalars; the arrays of samples may hold anything. It is refused by 9 where an option has no meaning, or by the first of the rules 1 to 5 that is broken; then nothing is written.
+pub fn open(
+    words: &mut [u32; 8],
+    floats: &mut [f32; 14],
+    config: IdentifyConfig,
+    options: u32,
+) -> Result<(), Rule>
+    ensures opening { opening (numbered result) (left_in words floats) ≡ live_open options config (found_in words floats) }
+    ensures flown { OpensFlight config (numbered result) (left_in words floats) }
+{
+    if options != 0 {
+        return Err(Rule::Form);
+    }
+    let probe = IdentifyProbe::new(config)?;
+    probe_writing::write_probe(words, floats, probe);
+    Ok(())
 }
 
 // ---- step
 
-// What a call leaves in the scalars and at the offset. It answers 0, or the number of the rule that turned the call back, and then nothing is written.
-fn keep(stepped: Stepped, words: &mut [u32; 8], floats: &mut [f32; 14], offset: &mut f32) -> u32
-    ensures result { result ≡ number (reply_of stepped) }
-    ensures offset { offset.new ≡ offset_after stepped offset.old }
-    ensures scalars { left_in words floats ≡ scalars_after stepped (found_in words floats) }
-{
-    match stepped {
-        Stepped::Offset(x, next) => {
-            probe_writing::write_probe(words, floats, next);
-            *offset = x;
-            0
-        }
-        Stepped::Ended => {
-            *offset = 0.0;
-            0
-        }
-        Stepped::Refused(number) => number,
-    }
-}
-
-// One call.
+// One call. The offset is 0 of an ended probe. Where a rule turns the call back nothing is written.
+#[tactic(auto, unfolding(crate::specs::Live::live_step, crate::specs::Live::scalars_after, crate::specs::Live::offset_after, identify::specs::Seen::reply_of, account::specs::Probe::number, rules::specs::Numbers::numbered, rules::specs::Numbers::numbers))]
 pub fn step(
     words: &mut [u32; 8],
     floats: &mut [f32; 14],
-    rates: &mut [f32; 2048],
-    moments: &mut [f32; 2048],
-    offsets: &mut [f32; 2048],
-    held: &mut [bool; 2048],
-    dt: f32,
-    rate: f32,
-    moment: f32,
+    lent: &mut LentArrays<'_>,
+    call: Call,
     offset: &mut f32,
-) -> u32
-    ensures flight { flight result offset.new (live_left words floats rates moments offsets held) ≡ live_step (live_found words floats rates moments offsets held) (call dt rate moment) offset.old }
-    ensures flown { FliesOn (live_found words floats rates moments offsets held) (call dt rate moment) result offset.new (live_left words floats rates moments offsets held) }
+) -> Result<(), Rule>
+    ensures flight { flight (numbered result) offset.new (live_left words floats lent) ≡ live_step (live_found words floats lent) (call_of call) offset.old }
+    ensures same { SameArrays lent.old lent.new }
+    ensures flown { FliesOn (live_found words floats lent) (call_of call) (numbered result) offset.new (live_left words floats lent) }
 {
-    let probe = probe_words::probe_of(words, floats);
-    let stepped = probe.step(rates, moments, offsets, held, dt, rate, moment);
-    keep(stepped, words, floats, offset)
+    let mut probe = probe_words::probe_of(words, floats);
+    let Some(x) = probe.step(lent, call)? else {
+        *offset = 0.0;
+        return Ok(());
+    };
+    probe_writing::write_probe(words, floats, probe);
+    *offset = x;
+    Ok(())
 }
 
 // ---- marks
 
 // Whether a call reads the marks: the probe runs, the call does not end before the end time, and no rule turns it back. The test that most calls fail comes first.
+#[tactic(auto, unfolding(crate::specs::Live::reads_marks, rules::specs::Numbers::numbered), using(rules::proofs::Numbers::above_0))]
 fn reads_marks(clock: Option<f32>, ticks: u32, end_s: f32, dt: f32) -> bool
     ensures { result ≡ reads_marks (refusal clock ticks dt) clock end_s dt }
 {
@@ -103,11 +92,7 @@ fn reads_marks(clock: Option<f32>, ticks: u32, end_s: f32, dt: f32) -> bool
     if elapsed_s + dt < end_s {
         return false;
     }
-    let number = rules::refuses(clock, ticks, dt);
-    if number == 0 {
-        return true;
-    }
-    false
+    rules::validate_call(clock, ticks, dt).is_ok()
 }
 
 // Before a call that reads the marks each byte of them is made 0 or 1, and before any other nothing is written. The marks that they stand for stay.

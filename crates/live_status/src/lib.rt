@@ -4,7 +4,7 @@
 ghost use Rattle.std.specs.Prelude.{◌≡◌};
 ghost use Rattle.report.specs.Report.{floats_of};
 ghost use Rattle.byte_units.specs.ByteUnits.{status_units};
-ghost use Rattle.live_status.specs.Status.{status_in, has_units, units_or_zeros, status_numbers, status_plain};
+ghost use Rattle.live_status.specs.Status.{status_in, status_numbers, status_plain};
 
 use account::IdentifyStatus;
 use units::Plain;
@@ -20,24 +20,8 @@ fn units_of(status: IdentifyStatus) -> Option<Plain>
     }
 }
 
-#[tactic(auto, unfolding(crate::specs::Status::has_units))]
-fn has_units(units: Option<Plain>) -> u32
-    ensures { result ≡ has_units units }
-{
-    u32::from(units.is_some())
-}
-
-#[tactic(auto, unfolding(crate::specs::Status::units_or_zeros))]
-fn units_or_zeros(units: Option<Plain>) -> Plain
-    ensures { result ≡ units_or_zeros units }
-{
-    units.unwrap_or(Plain {
-        lag_s: 0.0,
-        accel_radps2: 0.0,
-    })
-}
-
 // Where the probe stands: its kind, its delay in half ticks, the delay's whole ticks and its half tick, whether it has plain units; the six floats of its status; lag and acceleration.
+#[tactic(auto, unfolding(crate::specs::Status::status_numbers, crate::specs::Status::status_plain, crate::specs::Status::has_units, crate::specs::Status::units_or_zeros))]
 pub fn status(
     words: &[u32; 8],
     floats: &[f32; 14],
@@ -52,13 +36,16 @@ pub fn status(
     let status = probe_words::status_by(words[0], words[1], floats);
     let delay = report::kept_delay(status);
     let units = units_of(status);
-    let both = units_or_zeros(units);
+    let both = units.unwrap_or(Plain {
+        lag_s: 0.0,
+        accel_radps2: 0.0,
+    });
     *numbers = [
         report::kind(status),
         delay.half_ticks,
         delay.whole_ticks(),
         delay.half_tick(),
-        has_units(units),
+        u32::from(units.is_some()),
     ];
     *model = report::floats(status);
     *plain = [both.lag_s, both.accel_radps2];

@@ -5,6 +5,7 @@ ghost use Rattle.std.specs.Prelude.{◌≡◌};
 ghost use Rattle.marks.specs.Marks.{marks_by, settled};
 
 // Each byte is made that of its mark, 0 or 1.
+#[tactic(auto, using(std::proofs::lemmas::List::Edits::map_over_more))]
 pub fn settle(marks: &mut [u8; 2048])
     ensures { marks.new ≡ settled marks.old }
 {
@@ -17,10 +18,5 @@ pub fn settle(marks: &mut [u8; 2048])
 pub fn held_by(marks: &[u8; 2048]) -> [bool; 2048]
     ensures { result ≡ marks_by marks.now }
 {
-    // The array's own `map` takes fifty times as long.
-    let mut held = [false; 2048];
-    for (k, mark) in held.iter_mut().enumerate() {
-        *mark = marks[k] != 0;
-    }
-    held
+    std::array::from_fn(|k| marks[k] != 0)
 }

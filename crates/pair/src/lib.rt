@@ -1,4 +1,5 @@
 // The functions of a pair in flight that the static library exports.
+// C passes words, floats and arrays one by one, and takes a number for an answer, so each function here does, and calls what takes structs and answers a Result.
 #![tactic(auto)]
 
 ghost use Rattle.std.specs.Prelude.{◌≡◌, ◌≢◌};
@@ -8,10 +9,14 @@ ghost use Rattle.probe_words.specs.Layout.{scalars};
 ghost use Rattle.live_status.specs.Status.{status_in, status_numbers, status_plain};
 ghost use Rattle.two_axis.specs.Axes.{first, second, two_call};
 ghost use Rattle.live_probe.specs.Live.{config_by};
-ghost use Rattle.live_pair.specs.Pair.{scalars_over, pair_over, offsets_over, scalars_read, pair_readied, both_read};
+ghost use Rattle.live_pair.specs.Pair.{scalars_over, offsets_over, scalars_read, pair_readied, both_read};
 ghost use Rattle.live_pair.specs.Flown.{WritesPairReport, ReportsPair, TellsAxisDelay};
 ghost use Rattle.steady_pair.specs.SteadyPair.{SteadyPairOpened, SteadyPairStepped, steady_pair_readied};
 ghost use Rattle.steady_pair.specs.SteadyPairFlown.{OpensSteadyPair, OpensPlainPair, SteadyPairFliesOn, StepsPlainPair};
+ghost use Rattle.pair.specs.Lent.{pair_over};
+
+use two_axis_probe::TwoCall;
+use window::LentArrays;
 
 // Opens a pair in its scalars, plain or, with an option of 1, as steady; the arrays of samples may hold anything. It answers 0; 9 where an option has no meaning; or the number of the first of the rules 1 to 5 that is broken. On a number nothing is written.
 #[unsafe(no_mangle)]
@@ -34,21 +39,17 @@ pub extern "C" fn identify_live_pair_open(
     ensures flown { OpensSteadyPair (config_by amplitude duration_s washout_tc_s extension extension_amplitude extension_duration_s) (scalars_over words1 floats1 words2 floats2) steady first_dt_s result }
     ensures plain { options ≢ 1 → OpensPlainPair options (config_by amplitude duration_s washout_tc_s extension extension_amplitude extension_duration_s) (scalars_over words1 floats1 words2 floats2) result }
 {
-    steady_pair::open(
-        words1,
-        floats1,
-        words2,
-        floats2,
-        steady,
-        first_dt_s,
+    let config = live_probe::config_by(
         amplitude,
         duration_s,
         washout_tc_s,
         extension,
         extension_amplitude,
         extension_duration_s,
-        options,
-    )
+    );
+    rules::number_or_0(steady_pair::open(
+        words1, floats1, words2, floats2, steady, first_dt_s, config, options,
+    ))
 }
 
 // One call of both axes. It answers 0, or the number of the rule that turned the call back, 6, 10, 7 or 8, for both, and then nothing is written.
@@ -80,10 +81,29 @@ pub extern "C" fn identify_live_pair_step(
     ensures flown { SteadyPairFliesOn steady first_dt_s (pair_over words1 floats1 rates1 moments1 offsets1 held1 words2 floats2 rates2 moments2 offsets2 held2) (two_call dt rate1 moment1 rate2 moment2) (offsets_over offset1 offset2) result }
     ensures plain { steady ≡ 0 → StepsPlainPair first_dt_s (pair_over words1 floats1 rates1 moments1 offsets1 held1 words2 floats2 rates2 moments2 offsets2 held2) (two_call dt rate1 moment1 rate2 moment2) (offsets_over offset1 offset2) result }
 {
-    steady_pair::step(
-        words1, floats1, rates1, moments1, offsets1, held1, words2, floats2, rates2, moments2,
-        offsets2, held2, steady, first_dt_s, dt, rate1, moment1, rate2, moment2, offset1, offset2,
-    )
+    let mut lent1 = LentArrays {
+        rates: rates1,
+        moments: moments1,
+        offsets: offsets1,
+        held: held1,
+    };
+    let mut lent2 = LentArrays {
+        rates: rates2,
+        moments: moments2,
+        offsets: offsets2,
+        held: held2,
+    };
+    let call = TwoCall {
+        dt,
+        rate1,
+        moment1,
+        rate2,
+        moment2,
+    };
+    rules::number_or_0(steady_pair::step(
+        words1, floats1, &mut lent1, words2, floats2, &mut lent2, steady, first_dt_s, call,
+        offset1, offset2,
+    ))
 }
 
 // Before a call that reads an axis's marks each byte of them is made 0 or 1, and before any other, one that is turned back among them, nothing is written. The marks that they stand for stay.

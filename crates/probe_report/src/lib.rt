@@ -22,10 +22,12 @@ fn once_ended(status: IdentifyStatus, n: usize) -> usize
 }
 
 // The report of a probe and its arrays.
+#[tactic(auto, using(crate::proofs::Counting::counted), unfolding(counting::specs::Tally::counts_to))]
 pub fn report_of(probe: IdentifyProbe, rates: &[f32; 2048], held: &[bool; 2048]) -> Report
     ensures { (moments offsets : List Float) → result ≡ of_probe (seen probe (lent rates.now moments offsets held.now)) }
 {
     let counts = counting::count_ticks(probe.window, held);
+    // Field by field: three of the seven are no copies, and the others are of two structs.
     Report {
         ticks: probe.ticks,
         stored: probe.window.stored(),

@@ -2,11 +2,10 @@
 use Prim.Native.Nat.{◌≤◌, min}
 use mathlib.Core.Path.{◌≡◌, refl}
 use mathlib.Core.Bool.{Bool, true, false, not}
-use mathlib.Core.List.{[], ◌∷◌}
+use mathlib.Core.List.{◌∷◌}
 use native.Mathlib.Omega.{arith}
 use lib.Dec.{eqb}
 use lib.Ieee.{Float}
-use Rattle.float.specs.Series.{at}
 use Rattle.window.specs.Samples.{capacity}
 use Rattle.window.specs.Arrays.{stored_of}
 use Rattle.account.specs.declared.IdentifyExtension.{IdentifyExtension}
@@ -33,14 +32,6 @@ status_back (Running x) a b c d e f g h = refl
 status_back (Done m) a b c d e f g h = refl
 status_back Unexcited a b c d e f g h = refl
 status_back Saturated a b c d e f g h = refl
-
--- the six floats of a status, one by one
-pub six : (s : IdentifyStatus) → let l = floats_of s in at l 0 ∷ at l 1 ∷ at l 2 ∷ at l 3 ∷ at l 4 ∷ at l 5 ∷ [] ≡ l
-unfolding floats_of
-six (Running x) = refl
-six (Done m) = refl
-six Unexcited = refl
-six Saturated = refl
 
 -- a probe whose window is within its arrays
 pub back : (p : IdentifyProbe) → p.window.len ≤ capacity → probe_in (scalars_of p) ≡ p

@@ -1,7 +1,7 @@
 // A probe from two arrays that its caller keeps: eight words, and fourteen floats, of which the last six are those of its status.
 #![tactic(auto)]
 
-ghost use Rattle.std.specs.Prelude.{◌≡◌, ◌≤◌, min};
+ghost use Rattle.std.specs.Prelude.{◌≡◌, ◌≤◌};
 ghost use Rattle.window.specs.Samples.{capacity};
 ghost use Rattle.probe_words.specs.Layout.{scalars, noisy_by, model_by, status_by, sweep_by, window_by, probe_in};
 
@@ -12,13 +12,11 @@ use sweep::SquareSweep;
 use window::Window;
 
 // An extension by its flag: 0 is none.
+#[tactic(auto, unfolding(crate::specs::Layout::noisy_by))]
 pub fn noisy_by(flag: u32, amplitude: f32, duration_s: f32) -> Option<IdentifyExtension>
     ensures { result ≡ noisy_by flag amplitude duration_s }
 {
-    if flag == 0 {
-        return None;
-    }
-    Some(IdentifyExtension {
+    (flag != 0).then_some(IdentifyExtension {
         amplitude,
         duration_s,
     })
@@ -40,19 +38,16 @@ fn model_by(half_ticks: u32, floats: &[f32; 14]) -> RateModel
 }
 
 // A status by its kind, its delay and the last six floats. Any kind above 2 is saturated.
+#[tactic(auto, unfolding(crate::specs::Layout::status_by))]
 pub fn status_by(kind: u32, half_ticks: u32, floats: &[f32; 14]) -> IdentifyStatus
     ensures { result ≡ status_by kind half_ticks floats.now }
 {
-    if kind == 0 {
-        return IdentifyStatus::Running(floats[13]);
+    match kind {
+        report::RUNNING => IdentifyStatus::Running(floats[13]),
+        report::DONE => IdentifyStatus::Done(model_by(half_ticks, floats)),
+        report::UNEXCITED => IdentifyStatus::Unexcited,
+        _ => IdentifyStatus::Saturated,
     }
-    if kind == 1 {
-        return IdentifyStatus::Done(model_by(half_ticks, floats));
-    }
-    if kind == 2 {
-        return IdentifyStatus::Unexcited;
-    }
-    IdentifyStatus::Saturated
 }
 
 fn sweep_by(words: &[u32; 8], floats: &[f32; 14]) -> SquareSweep
@@ -69,22 +64,17 @@ fn sweep_by(words: &[u32; 8], floats: &[f32; 14]) -> SquareSweep
 }
 
 // A count of samples above 2,048 is read as 2,048.
-fn within_room(stored: u32) -> usize
-    ensures { result ≡ min stored capacity }
-{
-    stored.min(2048) as usize
-}
-
 fn window_by(stored: u32, duration_s: f32) -> Window
     ensures { result ≡ window_by stored duration_s }
 {
     Window {
-        len: within_room(stored),
+        len: stored.min(2048) as usize,
         duration_s,
     }
 }
 
 // The probe that any content of the two arrays stands for.
+#[tactic(auto, unfolding(crate::specs::Layout::probe_in))]
 pub fn probe_of(words: &[u32; 8], floats: &[f32; 14]) -> IdentifyProbe
     ensures probe { result ≡ probe_in (scalars words.now floats.now) }
     ensures room { result.window.len ≤ capacity }

@@ -3,44 +3,12 @@
 
 ghost use Rattle.std.specs.Prelude.{◌≡◌, ◌≤◌};
 ghost use Rattle.window.specs.Samples.{capacity};
-ghost use Rattle.window.specs.Arrays.{stored_of};
-ghost use Rattle.probe_words.specs.Layout.{left_in, probe_in, flag_of, extension_flag, extension_or_zeros, words_of, floats_in, scalars_of};
+ghost use Rattle.probe_words.specs.Layout.{left_in, probe_in, words_of, floats_in, scalars_of};
 
 use account::IdentifyExtension;
 use identify::IdentifyProbe;
-use window::Window;
 
-#[tactic(auto, unfolding(probe_words::specs::Layout::flag_of))]
-fn flag(on: bool) -> u32
-    ensures { result ≡ flag_of on }
-{
-    u32::from(on)
-}
-
-#[tactic(auto, unfolding(probe_words::specs::Layout::extension_flag))]
-fn extension_flag(noisy: Option<IdentifyExtension>) -> u32
-    ensures { result ≡ extension_flag noisy }
-{
-    u32::from(noisy.is_some())
-}
-
-// No extension is written as zeros.
-#[tactic(auto, unfolding(probe_words::specs::Layout::extension_or_zeros))]
-fn extension_or_zeros(noisy: Option<IdentifyExtension>) -> IdentifyExtension
-    ensures { result ≡ extension_or_zeros noisy }
-{
-    noisy.unwrap_or(IdentifyExtension {
-        amplitude: 0.0,
-        duration_s: 0.0,
-    })
-}
-
-fn stored_word(window: Window) -> u32
-    ensures { result ≡ stored_of window }
-{
-    window.stored() as u32
-}
-
+#[tactic(auto, unfolding(probe_words::specs::Layout::words_of, probe_words::specs::Layout::extension_flag, window::specs::Arrays::stored_of))]
 fn words_of(probe: IdentifyProbe) -> [u32; 8]
     ensures { result ≡ words_of probe }
 {
@@ -48,20 +16,25 @@ fn words_of(probe: IdentifyProbe) -> [u32; 8]
         report::kind(probe.status),
         report::kept_delay(probe.status).half_ticks,
         probe.ticks,
-        stored_word(probe.window),
+        probe.window.stored() as u32,
         probe.gain_fits,
-        extension_flag(probe.noisy),
+        u32::from(probe.noisy.is_some()),
         probe.sweep.edge,
-        flag(probe.sweep.high),
+        u32::from(probe.sweep.high),
     ]
 }
 
+// No extension is written as zeros.
+#[tactic(auto, unfolding(probe_words::specs::Layout::floats_in, probe_words::specs::Layout::extension_or_zeros))]
 fn floats_of(probe: IdentifyProbe) -> [f32; 14]
     ensures { result ≡ floats_in probe }
 {
-    let extension = extension_or_zeros(probe.noisy);
-    let model = report::floats(probe.status);
-    [
+    let extension = probe.noisy.unwrap_or(IdentifyExtension {
+        amplitude: 0.0,
+        duration_s: 0.0,
+    });
+    let mut floats = [0.0; 14];
+    floats[..8].copy_from_slice(&[
         probe.duration_s,
         extension.amplitude,
         extension.duration_s,
@@ -70,16 +43,13 @@ fn floats_of(probe: IdentifyProbe) -> [f32; 14]
         probe.sweep.next_edge_s,
         probe.sweep.washout,
         probe.window.duration_s,
-        model[0],
-        model[1],
-        model[2],
-        model[3],
-        model[4],
-        model[5],
-    ]
+    ]);
+    floats[8..].copy_from_slice(&report::floats(probe.status));
+    floats
 }
 
 // The probe's scalars into the two arrays.
+#[tactic(auto, using(probe_words::proofs::Back::back))]
 pub fn write_probe(words: &mut [u32; 8], floats: &mut [f32; 14], probe: IdentifyProbe)
     ensures scalars { left_in words floats ≡ scalars_of probe }
     ensures back { probe.window.len ≤ capacity → probe_in (left_in words floats) ≡ probe }

@@ -73,16 +73,13 @@ fn at_least_one(n: usize) -> f32
 fn sum_rows_dt(rows: usize, dt_s: f32) -> f32
     ensures { result ≡ sum_to binary32 (λ k. dt_s) rows }
 {
-    let mut sum = 0.0f32;
-    for _ in 0..rows {
-        sum += dt_s;
-    }
-    sum
+    (0..rows).fold(0.0, |sum, _| sum + dt_s)
 }
 
 // ---- the fits of all delays
 
 // The fit of delay k + 1.
+#[tactic(auto, unfolding(crate::specs::Stages::solved_from))]
 fn solve_delay(shared: SharedSums, k: usize) -> Option<Solution>
     requires { k < 10 }
     ensures { result ≡ solved_from shared k }
@@ -101,8 +98,9 @@ fn entry(solved: Option<Solution>) -> Option<Entry>
     ensures { result ≡ entry_of solved }
 {
     let Solution { c, residual } = solved?;
+    let [_, _, m0, m1, m2, _] = c;
     Some(Entry {
-        effect: c[2] + c[3] + c[4],
+        effect: m0 + m1 + m2,
         residual,
     })
 }
@@ -116,16 +114,18 @@ fn entries(fits: [Option<Solution>; 10]) -> [Option<Entry>; 20]
 
 // ---- the fit that wins
 
+#[tactic(auto, unfolding(crate::specs::Classify::model_of))]
 fn model(s: Solution, position: usize, dt_s: f32) -> RateModel
     requires { position ≤ entry_count }
     ensures { result ≡ model_of s position dt_s }
 {
+    let [c0, c1, m0, m1, m2, _] = s.c;
     RateModel {
-        r1: 1.0 + s.c[0] + s.c[1],
-        r2: -s.c[1],
-        m0: s.c[2],
-        m1: s.c[3],
-        m2: s.c[4],
+        r1: 1.0 + c0 + c1,
+        r2: -c1,
+        m0,
+        m1,
+        m2,
         delay: Delay::from_recorded(position),
         dt_s,
     }
@@ -164,6 +164,7 @@ pub fn fit_recorded(readings: Readings<'_>) -> Option<RecordedFit>
 
 // ---- the class of a window
 
+#[tactic(auto, using(crate::proofs::Rail::magnitude_is), unfolding(crate::specs::Classify::at_rail))]
 fn is_at_rail(moment: f32) -> bool
     ensures { result ≡ at_rail moment }
 {
@@ -176,6 +177,7 @@ fn count_at_rail(moments: &[f32]) -> usize
     moments.iter().filter(|m| is_at_rail(**m)).count()
 }
 
+#[tactic(auto, using(crate::proofs::Rail::count_is), unfolding(crate::specs::Classify::saturated))]
 fn is_saturated(moments: &[f32]) -> bool
     requires { length moments.now ≤ capacity }
     ensures { result ≡ saturated_by moments.now }
@@ -184,7 +186,7 @@ fn is_saturated(moments: &[f32]) -> bool
 }
 
 // Which fit a window takes.
-#[tactic(auto, unfolding(window::specs::Arrays::stored_of))]
+#[tactic(auto, unfolding(window::specs::Arrays::stored_of, crate::specs::Classify::classify, crate::specs::Classify::class_of))]
 pub fn classify(readings: Readings<'_>) -> Classified
     ensures { let n = stored_of readings.entry.window in result ≡ class_of_window (take n readings.entry.rates.now) (take n readings.entry.moments.now) (take n readings.entry.held.now) readings.entry.window.duration_s }
 {

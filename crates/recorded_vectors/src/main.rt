@@ -8,30 +8,26 @@ use delay::Entry;
 use least_squares::Sums;
 use recorded::{Classified, RecordedFit};
 use std::io;
-use vectors::{is_at, part, replay, same};
+use vectors::{count_at, is_at, part, replay, same};
 use window::{Readings, Window};
 use wire::{read_float, read_word};
 
 // ---- the tie rule
 
-// Entry k, of which the mask says whether it is there.
-fn entry(mask: u32, k: u32, effect: f32, residual: f32) -> Option<Entry> {
-    if 31 < k {
-        return None;
-    }
-    if (mask >> k) % 2 == 0 {
-        return None;
-    }
-    Some(Entry { effect, residual })
+// Entry k, of which the mask says whether it is there: f effect, f residual.
+fn entry(s: &[u8], mask: u32, k: u32) -> Option<Entry> {
+    (mask.checked_shr(k)? % 2 == 1).then_some(Entry {
+        effect: read_float(s, 0),
+        residual: read_float(s, 4),
+    })
 }
 
 // f share, w mask, 21 entries of f effect and f residual, of which the rule reads 20; w position, 0 for none.
 fn tie_agrees(s: &[u8]) -> bool {
     let mask = read_word(s, 4);
     let mut entries = [None; 20];
-    for k in 0..20usize {
-        let at = 8 + k * 8;
-        entries[k] = entry(mask, k as u32, read_float(s, at), read_float(s, at + 4));
+    for (k, (place, bytes)) in (0..).zip(entries.iter_mut().zip(part(s, 8, 160).chunks_exact(8))) {
+        *place = entry(bytes, mask, k);
     }
     let expected = read_word(s, 176) as usize;
     delay::delay_to_fit(entries, read_float(s, 0)).unwrap_or(0) == expected
@@ -39,30 +35,36 @@ fn tie_agrees(s: &[u8]) -> bool {
 
 // ---- sums and their solution
 
-// 36 f normal, 6 f projected, f target squared.
-fn sums(s: &[u8]) -> Sums {
-    let mut normal = [0.0f32; 36];
-    for (n, entry) in normal.iter_mut().enumerate() {
-        *entry = read_float(s, n * 4);
+// Six floats from byte `at` on.
+fn six(s: &[u8], at: usize) -> [f32; 6] {
+    let mut floats = [0.0f32; 6];
+    for (float, bytes) in floats.iter_mut().zip(part(s, at, 24).chunks_exact(4)) {
+        *float = read_float(bytes, 0);
     }
-    let mut projected = [0.0f32; 6];
-    for (i, entry) in projected.iter_mut().enumerate() {
-        *entry = read_float(s, 144 + i * 4);
+    floats
+}
+
+// 36 f normal, column after column, 6 f projected, f target squared.
+fn sums(s: &[u8]) -> Sums {
+    let mut normal = [[0.0f32; 6]; 6];
+    for (j, column) in normal.iter_mut().enumerate() {
+        *column = six(s, j * 24);
     }
     Sums {
         normal,
-        projected,
+        projected: six(s, 144),
         target_squared: read_float(s, 168),
     }
 }
 
+fn same_six(a: &[f32; 6], b: &[f32; 6]) -> bool {
+    a.iter().zip(b).all(|(x, y)| same(*x, *y))
+}
+
 fn same_sums(a: Sums, b: Sums) -> bool {
     same(a.target_squared, b.target_squared)
-        & a.normal.iter().zip(&b.normal).all(|(x, y)| same(*x, *y))
-        & a.projected
-            .iter()
-            .zip(&b.projected)
-            .all(|(x, y)| same(*x, *y))
+        & a.normal.iter().zip(&b.normal).all(|(x, y)| same_six(x, y))
+        & same_six(&a.projected, &b.projected)
 }
 
 // The sums; w 1 for a fit, else 0; six f coefficients, f residual.
@@ -70,59 +72,63 @@ fn solve_agrees(s: &[u8]) -> bool {
     match sums(s).solve() {
         None => read_word(s, 172) == 0,
         Some(f) => (read_word(s, 172) == 1)
-            & f.c
-                .iter()
-                .enumerate()
-                .all(|(i, c)| is_at(*c, s, 176 + i * 4))
+            & same_six(&f.c, &six(s, 176))
             & is_at(f.residual, s, 200),
     }
 }
 
 // ---- windows
 
-// The count that a record of a window begins with, at most what a window holds.
-fn stored(s: &[u8]) -> usize
-    ensures { result ≤ 2048 }
-{
-    read_word(s, 0).min(2048) as usize
+// A window's readings.
+#[derive(Drop)]
+struct Recording {
+    len: usize,
+    rates: [f32; 2048],
+    moments: [f32; 2048],
+    held: [bool; 2048],
 }
 
-// w stored; each f rate, f moment, w mark.
-fn read_window(
-    s: &[u8],
-    n: usize,
-    rates: &mut [f32; 2048],
-    moments: &mut [f32; 2048],
-    held: &mut [bool; 2048],
-)
-    requires { n ≤ 2048 }
-{
-    for k in 0..n {
-        let at = 4 + k * 12;
-        rates[k] = read_float(s, at);
-        moments[k] = read_float(s, at + 4);
-        held[k] = read_word(s, at + 8) == 1;
+impl Recording {
+    // w stored; each f rate, f moment, w mark.
+    fn read(s: &[u8]) -> Self {
+        let len = count_at(s, 0, 2048);
+        let mut rates = [0.0f32; 2048];
+        let mut moments = [0.0f32; 2048];
+        let mut held = [false; 2048];
+        let ticks = part(s, 4, len * 12).chunks_exact(12);
+        let places = rates.iter_mut().zip(&mut moments).zip(&mut held);
+        for (((rate, moment), mark), tick) in places.zip(ticks) {
+            *rate = read_float(tick, 0);
+            *moment = read_float(tick, 4);
+            *mark = read_word(tick, 8) == 1;
+        }
+        Recording {
+            len,
+            rates,
+            moments,
+            held,
+        }
+    }
+
+    fn readings(&self, duration_s: f32) -> Readings<'_> {
+        Readings {
+            window: Window {
+                len: self.len,
+                duration_s,
+            },
+            rates: &self.rates,
+            moments: &self.moments,
+            held: &self.held,
+        }
     }
 }
 
 // A window, w rows; the sums of each of ten delays, which are held to those made for it alone and from the shared ones.
 fn sums_agree(s: &[u8]) -> bool {
-    let n = stored(s);
-    let mut rates = [0.0f32; 2048];
-    let mut moments = [0.0f32; 2048];
-    let mut held = [false; 2048];
-    read_window(s, n, &mut rates, &mut moments, &mut held);
-    let readings = Readings {
-        window: Window {
-            len: n,
-            duration_s: 0.0,
-        },
-        rates: &rates,
-        moments: &moments,
-        held: &held,
-    };
+    let recording = Recording::read(s);
+    let readings = recording.readings(0.0);
     let shared = shared_sums::sum_shared(readings);
-    let answers = part(s, 8 + n * 12, 1720);
+    let answers = part(s, 8 + count_at(s, 0, 2048) * 12, 1720);
     (0..10usize).all(|k| {
         let expected = sums(part(answers, k * 172, 172));
         let alone = rows::add_window(readings, k + 1, rows::no_sums());
@@ -158,18 +164,9 @@ fn fit_agrees(fit: Option<RecordedFit>, s: &[u8]) -> bool {
 
 // A window, f window duration; the fit; w class.
 fn recorded_agrees(s: &[u8]) -> bool {
-    let n = stored(s);
-    let mut rates = [0.0f32; 2048];
-    let mut moments = [0.0f32; 2048];
-    let mut held = [false; 2048];
-    read_window(s, n, &mut rates, &mut moments, &mut held);
-    let duration_s = read_float(s, 4 + n * 12);
-    let readings = Readings {
-        window: Window { len: n, duration_s },
-        rates: &rates,
-        moments: &moments,
-        held: &held,
-    };
+    let n = count_at(s, 0, 2048);
+    let recording = Recording::read(s);
+    let readings = recording.readings(read_float(s, 4 + n * 12));
     let fit = recorded::fit_recorded(readings);
     let class = recorded::classify(readings);
     let answers = part(s, 8 + n * 12, 40);
@@ -179,11 +176,11 @@ fn recorded_agrees(s: &[u8]) -> bool {
 // ---- files
 
 fn sums_size(s: &[u8]) -> usize {
-    1728 + stored(s) * 12
+    1728 + count_at(s, 0, 2048) * 12
 }
 
 fn recorded_size(s: &[u8]) -> usize {
-    48 + stored(s) * 12
+    48 + count_at(s, 0, 2048) * 12
 }
 
 fn main(rt: HostRuntime) -> io::Result<()> {

@@ -7,7 +7,7 @@ use lib.Dec.{lit<}
 use lib.ListN.{length, length-append, length-map}
 use Rattle.wire.specs.Words.{bytes_of, word_bytes, word_of, written_at, written_within}
 use Rattle.wire.proofs.Bytes.{length_bytes, length_words, three_words, words_append}
-use Rattle.wire.proofs.Written.{within, written_next, three_written}
+use Rattle.wire.proofs.Written.{within, written_next}
 use Rattle.account.specs.declared.IdentifyStatus.{IdentifyStatus}
 use Rattle.account.specs.declared.IdentifyStatus.TheVariants.{Running, Done, Unexcited, Saturated}
 use Rattle.report.specs.declared.Report.{Report}
@@ -33,18 +33,14 @@ pub length_report : (r : Report) → length (report_bytes r) ≡ 36
 unfolding report_bytes
 length_report r = rw (length-append, length_bytes, length_words, length-map, six_floats)
 
--- three words, written one after another
-pub fields_written : (n : ℕ) (l : List ℕ) → 12 ≤ length l
-    → written_within 8 (bytes_of 4 (n % 2 ^ 32)) (written_within 4 (bytes_of 4 (n / 2 ^ 32 % 2 ^ 32)) (written_within 0 (bytes_of 4 (n / 2 ^ 64)) l)) ≡ written_at 0 (bytes_of 12 n) l
-fields_written n l h = rw (three_words n) (three_written (n / 2 ^ 64) (n / 2 ^ 32 % 2 ^ 32) (n % 2 ^ 32) l h)
-
--- the floats behind the fields
-pub report_written : (r : Report) (l : List ℕ) → 36 ≤ length l → written_at 12 (word_bytes (map word_of (floats_of r.status))) (written_at 0 (bytes_of 12 (packed 0 (fields_of r))) l) ≡ written_within 0 (report_bytes r) l
+-- the fields as three words, and the floats behind them
+pub report_written : (r : Report) (l : List ℕ) → 36 ≤ length l
+    → (let n = packed 0 (fields_of r) in written_at 12 (word_bytes (map word_of (floats_of r.status))) (written_at 0 (word_bytes (n / 2 ^ 64 ∷ n / 2 ^ 32 % 2 ^ 32 ∷ n % 2 ^ 32 ∷ [])) l)) ≡ written_within 0 (report_bytes r) l
 unfolding report_bytes
 report_written r l h =
     let fields = bytes_of 12 (packed 0 (fields_of r)) in
     let e : length fields ≡ 12 = length_bytes 12 (packed 0 (fields_of r)) in
-    rw (within 0 (report_bytes r) l (rw (length_report r) h))
+    rw (← three_words (packed 0 (fields_of r)), within 0 (report_bytes r) l (rw (length_report r) h))
     (rw e at (written_next 0 fields (word_bytes (map word_of (floats_of r.status))) l (rw e (omega arith))))
 
 -- ---- the first word

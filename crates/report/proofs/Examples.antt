@@ -27,7 +27,7 @@ fitted p gain = record {
   held = 0;
   warm = 11;
   rows = 5;
-  status = Done (model_of (record { pole = half; low = zero32; high = one32; gain = gain; residual = one32 }) p quarter);
+  status = Done (model_of (record { bracket = record { pole = half; low = zero32; high = one32 }; fit = record { gain = gain; residual = one32 } }) p quarter);
   gain_fits = 2604;
 }
 

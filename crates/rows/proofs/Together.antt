@@ -10,7 +10,7 @@ use Rattle.window.specs.Walk.{run, over, mark_at, is_row}
 use Rattle.window.specs.Arrays.{many_to}
 use Rattle.least_squares.specs.declared.Sums.{Sums}
 use Rattle.rows.specs.Rows.{target, regressors, product, projection, each, sum_rows, sums_by, window_sums}
-use Rattle.rows.proofs.Walked.{each_over}
+use Rattle.rows.proofs.Walked.{each_over, each_each_over}
 
 -- a part of what is walked is a walk of that part
 module _ {S P : Type 0} (such : Bool → ℕ → Bool) (mark : ℕ → Bool) (f : S → ℕ → S) (g : P → ℕ → P) (part : S → P) (h : (s : S) (k : ℕ) → part (f s k) ≡ g (part s) k) where
@@ -28,7 +28,7 @@ pub alike : (marks : List Bool) (x : Float) (n : ℕ) → sum_rows marks n (λ k
 unfolding sum_rows many_to sum_to
 alike marks x n = sym (part_over is_row (mark_at marks) (λ (m k : ℕ). suc m) (λ (s : Float) (k : ℕ). add binary32 s x) (sum_to binary32 (λ k. x)) (λ m k. refl) 0 n)
 
-abbrev pub sums_of : List Float → List Float → Float → Sums
+abbrev pub sums_of : List (List Float) → List Float → Float → Sums
 sums_of n p t = record { normal = n; projected = p; target_squared = t }
 
 pub same_sums : (x y : Sums) → x.normal ≡ y.normal → x.projected ≡ y.projected → x.target_squared ≡ y.target_squared → x ≡ y
@@ -39,14 +39,14 @@ same_sums x y n p t =
 -- tick k's row, added
 unfoldable pub add_row : List Float → List Float → ℕ → Sums → ℕ → Sums
 add_row rates moments d s k = record {
-  normal = each 36 (λ n x. add binary32 x (product (regressors rates moments d k) n)) s.normal;
+  normal = each 6 (λ j column. each 6 (λ i x. add binary32 x (product (regressors rates moments d k) i j)) column) s.normal;
   projected = each 6 (λ i x. add binary32 x (projection (regressors rates moments d k) (target rates k) i)) s.projected;
   target_squared = add binary32 s.target_squared (mul binary32 (target rates k) (target rates k));
 }
 
 -- the row's terms and target as they stand in the code
-pub row_added : (rates moments : List Float) (d k : ℕ) (s : Sums) {φ : List Float} {t : Float} {n p : List Float} → φ ≡ regressors rates moments d k → t ≡ target rates k
-    → n ≡ each 36 (λ i x. add binary32 x (product φ i)) s.normal
+pub row_added : (rates moments : List Float) (d k : ℕ) (s : Sums) {φ : List Float} {t : Float} {n : List (List Float)} {p : List Float} → φ ≡ regressors rates moments d k → t ≡ target rates k
+    → n ≡ each 6 (λ j column. each 6 (λ i x. add binary32 x (product φ i j)) column) s.normal
     → p ≡ each 6 (λ i x. add binary32 x (projection φ t i)) s.projected
     → sums_of n p (add binary32 s.target_squared (mul binary32 t t)) ≡ add_row rates moments d s k
 unfolding add_row
@@ -60,8 +60,8 @@ module _ (rates moments : List Float) (marks : List Bool) (d : ℕ) (start : Sum
   unfolding window_sums sums_by sum_rows add_row
   window_walk n =
       same_sums _ (walked n)
-      (each_over is_row (mark_at marks) 36 (λ i k. product (regressors rates moments d k) i) start.normal n
+      (each_each_over is_row (mark_at marks) 6 (λ j. 6) (λ j i k. product (regressors rates moments d k) i j) start.normal n
       ∙ sym (part_over is_row (mark_at marks) (add_row rates moments d) _ (λ s. s.normal) (λ s k. refl) start n))
-      (each_over is_row (mark_at marks) 6 (λ i k. projection (regressors rates moments d k) (target rates k) i) start.projected n
+      (each_over is_row (mark_at marks) 6 (λ i x k. add binary32 x (projection (regressors rates moments d k) (target rates k) i)) start.projected n
       ∙ sym (part_over is_row (mark_at marks) (add_row rates moments d) _ (λ s. s.projected) (λ s k. refl) start n))
       (sym (part_over is_row (mark_at marks) (add_row rates moments d) _ (λ s. s.target_squared) (λ s k. refl) start n))

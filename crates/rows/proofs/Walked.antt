@@ -11,7 +11,7 @@ use lib.Ieee.{Float, binary32, add}
 use Rattle.window.specs.Walk.{run, over, mark_at, is_row}
 use Rattle.window.proofs.Bounds.{run_at_most}
 use Rattle.rows.specs.Rows.{next_run, each}
-use Rattle.rows.proofs.Each.{each_each, each_same}
+use Rattle.rows.proofs.Each.{each_each, each_same, each_by}
 
 -- the 12th or more of its run, by the run that it ends
 ends : (x : Bool) (n : ℕ) → leb 12 (cond x 0 (suc n)) ≡ is_row x n
@@ -64,16 +64,26 @@ module _ {S : Type 0} {marks : List Bool} {f : S → ℕ → S} {s₀ : S} where
 abbrev pub adds : ℕ → (ℕ → ℕ → Float) → List Float → ℕ → List Float
 adds m f s k = each m (λ i x. add binary32 x (f i k)) s
 
--- sums that are walked side by side are one walk of all
-module _ (such : Bool → ℕ → Bool) (mark : ℕ → Bool) (m : ℕ) (f : ℕ → ℕ → Float) (l : List Float) where
-  abbrev one : ℕ → ℕ → Float → Float
-  one n i s = over such mark (λ (x : Float) (k : ℕ). add binary32 x (f i k)) s n
+-- entries that are walked side by side are one walk of all
+module _ {A : Type 0} (such : Bool → ℕ → Bool) (mark : ℕ → Bool) (m : ℕ) (f : ℕ → A → ℕ → A) (l : List A) where
+  abbrev one : ℕ → ℕ → A → A
+  one n i s = over such mark (f i) s n
 
-  turn : (b : Bool) (n : ℕ) → each m (λ i s. cond b (add binary32 (one n i s) (f i n)) (one n i s)) l ≡ cond b (adds m f (each m (one n) l) n) (each m (one n) l)
-  turn true n = sym (each_each m (λ i x. add binary32 x (f i n)) (one n) l)
+  abbrev all : List A → ℕ → List A
+  all s k = each m (λ i x. f i x k) s
+
+  turn : (b : Bool) (n : ℕ) → each m (λ i s. cond b (f i (one n i s) n) (one n i s)) l ≡ cond b (all (each m (one n) l) n) (each m (one n) l)
+  turn true n = sym (each_each m (λ i x. f i x n) (one n) l)
   turn false n = refl
 
-  pub each_over : (n : ℕ) → each m (one n) l ≡ over such mark (adds m f) l n
+  pub each_over : (n : ℕ) → each m (one n) l ≡ over such mark all l n
   unfolding over
   each_over zero = each_same m l
   each_over (suc n) = turn (such (mark n) (run mark n)) n ∙ rw (each_over n)
+
+-- the same of lists of sums, p(j) of list j
+pub each_each_over : (such : Bool → ℕ → Bool) (mark : ℕ → Bool) (m : ℕ) (p : ℕ → ℕ) (f : ℕ → ℕ → ℕ → Float) (l : List (List Float)) (n : ℕ)
+    → each m (λ j r. each (p j) (λ i s. over such mark (λ (x : Float) (k : ℕ). add binary32 x (f j i k)) s n) r) l ≡ over such mark (λ s k. each m (λ j r. adds (p j) (f j) r k) s) l n
+each_each_over such mark m p f l n =
+    each_by m _ _ l (λ j r. each_over such mark (p j) (λ i x k. add binary32 x (f j i k)) r n)
+    ∙ each_over such mark m (λ j r k. adds (p j) (f j) r k) l n

@@ -1,5 +1,5 @@
 -- The rows of the recorded fit and their sums: 01, "The recorded fit". A window is its rates, moments and held marks by tick.
-use Rattle.std.specs.Prelude.{ℕ, zero, suc, ◌+◌, ◌-◌, ◌/◌, ◌%◌, min, max, Bool, cond, replicate, Float}
+use Rattle.std.specs.Prelude.{ℕ, zero, suc, ◌+◌, ◌-◌, min, max, Bool, cond, replicate, Float}
 use mathlib.Core.List.{List, [], ◌∷◌, foldl}
 use Rattle.std.specs.Float.{binary32}
 use Rattle.std.specs.Float.Ieee.{add, sub, mul}
@@ -27,16 +27,16 @@ regressors rates moments d k =
     sub binary32 (at rates (k - 1)) (at rates (k - 2)) ∷
     at moments (k + 1 - d) ∷ at moments (k - d) ∷ at moments (k - 1 - d) ∷ one32 ∷ []
 
--- term i times term j, entry 6·j + i of the normal equations
-unfoldable pub product : List Float → ℕ → Float
-product terms n = mul binary32 (at terms (n % 6)) (at terms (n / 6))
+-- term i times term j, the entry in row i and column j of the normal equations
+unfoldable pub product : List Float → ℕ → ℕ → Float
+product terms i j = mul binary32 (at terms i) (at terms j)
 
 -- term i times the target
 unfoldable pub projection : List Float → Float → ℕ → Float
 projection terms t i = mul binary32 (at terms i) t
 
 -- each of the first n entries by f, from its place and itself
-unfoldable pub each : ℕ → (ℕ → Float → Float) → List Float → List Float
+unfoldable pub each : {A : Type 0} → ℕ → (ℕ → A → A) → List A → List A
 each zero f l = l
 each (suc n) f [] = []
 each (suc n) f (x ∷ l) = f zero x ∷ each n (λ k y. f (suc k) y) l
@@ -45,14 +45,14 @@ each (suc n) f (x ∷ l) = f zero x ∷ each n (λ k y. f (suc k) y) l
 -- Σ φ·φᵀ, Σ φ·t and Σ t², each product rounded and then added
 unfoldable pub sums_by : ((ℕ → Float) → Float → Float) → List Float → List Float → ℕ → Sums → Sums
 sums_by total rates moments d start = record {
-  normal = each 36 (λ n s. total (λ k. product (regressors rates moments d k) n) s) start.normal;
+  normal = each 6 (λ j column. each 6 (λ i s. total (λ k. product (regressors rates moments d k) i j) s) column) start.normal;
   projected = each 6 (λ i s. total (λ k. projection (regressors rates moments d k) (target rates k) i) s) start.projected;
   target_squared = total (λ k. mul binary32 (target rates k) (target rates k)) start.target_squared;
 }
 
 -- "Sums start at 0"
 unfoldable pub no_sums : Sums
-no_sums = record { normal = replicate 36 zero32; projected = replicate 6 zero32; target_squared = zero32 }
+no_sums = record { normal = replicate 6 (replicate 6 zero32); projected = replicate 6 zero32; target_squared = zero32 }
 
 -- s + Σ f(k) over the ticks k below n that are rows, in tick order. "A good tick k makes a row if it is at least the 12th of its run."
 unfoldable pub sum_rows : List Bool → ℕ → (ℕ → Float) → Float → Float

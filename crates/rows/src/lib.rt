@@ -13,11 +13,20 @@ use window::Readings;
 // Good ticks in a row from which a tick makes a row: the longest delay's last moment stands eleven ticks before it.
 pub const HISTORY: usize = 12;
 
-// A delay of the fit: the one of 1 to 10 that is nearest.
-pub fn delay_within(d: usize) -> usize
-    ensures { result ≡ delay_within d }
+// A delay of the fit, in ticks.
+#[derive(Clone, Copy)]
+pub struct FitDelay {
+    pub ticks: usize,
+    pub ghost within: { (1 ≤ ticks) × (ticks ≤ 10) },
+}
+
+// The delay of the fit that is nearest.
+pub fn delay_within(d: usize) -> FitDelay
+    ensures { result.ticks ≡ delay_within d }
 {
-    d.clamp(1, 10)
+    FitDelay {
+        ticks: d.clamp(1, 10),
+    }
 }
 
 // How many good ticks stand in a row once a tick with this mark is counted: a held one empties the history. Counted to 12.
@@ -31,11 +40,13 @@ pub fn next_run(held: bool, run: usize) -> usize
     }
 }
 
-// The six terms of tick k's row at delay d.
-fn regressors(rates: &[f32; 2048], moments: &[f32; 2048], d: usize, k: usize) -> [f32; 6]
-    requires { (1 ≤ d) × (d ≤ 10) × (11 ≤ k) × (k < 2048) }
-    ensures { result ≡ regressors_of rates.now moments.now d k }
+// The six terms of tick k's row at a delay.
+#[tactic(auto, unfolding(crate::specs::Rows::regressors))]
+fn regressors(rates: &[f32; 2048], moments: &[f32; 2048], delay: FitDelay, k: usize) -> [f32; 6]
+    requires { (11 ≤ k) × (k < 2048) }
+    ensures { result ≡ regressors_of rates.now moments.now delay.ticks k }
 {
+    let d = delay.ticks;
     let last = rates[k - 1];
     [
         last,
@@ -47,28 +58,34 @@ fn regressors(rates: &[f32; 2048], moments: &[f32; 2048], d: usize, k: usize) ->
     ]
 }
 
-fn add_products(normal: &mut [f32; 36], terms: &[f32; 6])
-    ensures { normal.new ≡ each 36 (λ n s. add binary32 s (product terms.now n)) normal.old }
+// A row's terms times one factor, each added to its sum. By the place, here and below: after a loop over `iter_mut().zip(..)` a
+// proof does not know what the array holds.
+#[tactic(auto, using(crate::proofs::Each::each_next), unfolding(crate::specs::Rows::each, crate::specs::Rows::projection))]
+fn add_projections(projected: &mut [f32; 6], terms: &[f32; 6], factor: f32)
+    ensures { projected.new ≡ each 6 (λ i s. add binary32 s (projection terms.now factor i)) projected.old }
 {
-    for (n, sum) in normal.iter_mut().enumerate() {
-        *sum += terms[n % 6] * terms[n / 6];
+    for (i, sum) in projected.iter_mut().enumerate() {
+        *sum += terms[i] * factor;
     }
 }
 
-fn add_projections(projected: &mut [f32; 6], terms: &[f32; 6], target: f32)
-    ensures { projected.new ≡ each 6 (λ i s. add binary32 s (projection terms.now target i)) projected.old }
+// A row's terms times each of them, column by column.
+#[tactic(auto, using(crate::proofs::Each::each_next), unfolding(crate::specs::Rows::each, crate::specs::Rows::product, crate::specs::Rows::projection))]
+fn add_products(normal: &mut [[f32; 6]; 6], terms: &[f32; 6])
+    ensures { normal.new ≡ each 6 (λ j column. each 6 (λ i s. add binary32 s (product terms.now i j)) column) normal.old }
 {
-    for (i, sum) in projected.iter_mut().enumerate() {
-        *sum += terms[i] * target;
+    for (j, column) in normal.iter_mut().enumerate() {
+        add_projections(column, terms, terms[j]);
     }
 }
 
 // No rows yet.
+#[tactic(auto, unfolding(crate::specs::Rows::no_sums))]
 pub fn no_sums() -> Sums
     ensures { result ≡ no_sums }
 {
     Sums {
-        normal: [0.0; 36],
+        normal: [[0.0; 6]; 6],
         projected: [0.0; 6],
         target_squared: 0.0,
     }

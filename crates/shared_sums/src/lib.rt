@@ -1,98 +1,101 @@
 // The sums over a window's rows that the delays share.
 #![tactic(auto)]
 
-ghost use Rattle.std.specs.Prelude.{◌≡◌, ◌*◌, ◌-◌, ◌≤◌, ◌<◌, [], get_or};
+ghost use Rattle.std.specs.Prelude.{◌≡◌, ◌+◌, ◌-◌, ◌≤◌, ◌<◌};
 ghost use Rattle.std.specs.Float.{binary32};
-ghost use Rattle.std.specs.Float.Ieee.{add};
-ghost use Rattle.float.specs.Series.{at, fill};
+ghost use Rattle.std.specs.Float.Ieee.{add, mul};
+ghost use Rattle.float.specs.Series.{at};
 ghost use Rattle.window.specs.Arrays.{stored_of};
 ghost use Rattle.rows.specs.Rows.{each};
-ghost use Rattle.shared_sums.specs.Shared.{common_terms, common_product, lagged_product, pair_product, shared_sums, fill_from};
+ghost use Rattle.shared_sums.specs.Shared.{common_terms, last_moments, shared_sums};
 
 use window::Readings;
 
 // The sums over a window's rows that its delays share. The four common terms of a row are its last rate, that rate's change, 1 and the target.
 #[derive(Clone, Copy)]
 pub struct SharedSums {
-    // The i-th common term times the q-th, at 4 q + i.
-    pub common: [f32; 16],
-    // The q-th common term times the moment j ticks back, at 12 q + j.
-    pub lagged: [f32; 48],
-    // The moment j ticks back times the one o ticks before it, at o and j.
+    // At a and b the a-th common term times the b-th.
+    pub common: [[f32; 4]; 4],
+    // At a and j the a-th common term times the moment j ticks back.
+    pub lagged: [[f32; 12]; 4],
+    // At o and j the moment j ticks back times the one o ticks before it.
     pub pairs: [[f32; 12]; 3],
     // How many rows there are.
     pub rows: usize,
 }
 
+// What a tick's row has whatever the delay.
+#[derive(Clone, Copy)]
+struct Row {
+    // The common terms.
+    terms: [f32; 4],
+    // The twelve last moments, the newest first.
+    moments: [f32; 12],
+}
+
 // ---- a row's products
 
-fn common_terms(rates: &[f32; 2048], k: usize) -> [f32; 4]
-    requires { (11 ≤ k) × (k < 2048) }
-    ensures { result ≡ common_terms rates.now k }
-{
-    [
-        rates[k - 1],
-        rates[k - 1] - rates[k - 2],
-        1.0,
-        rates[k] - rates[k - 1],
-    ]
-}
-
-// The q-th common term times each. By index, block by block: with one iterator over all the places the sums take five times as long.
-fn add_common_to(sums: &mut [f32; 16], terms: &[f32; 4], q: usize)
-    requires { q < 4 }
-    ensures { sums.new ≡ fill_from (4 * q) (λ n l. add binary32 (at l n) (common_product terms.now n)) sums.old 4 }
-{
-    let term = terms[q];
-    for i in 0..4 {
-        sums[4 * q + i] += terms[i] * term;
+impl Row {
+    // The row of tick k.
+    fn of_tick(rates: &[f32; 2048], moments: &[f32; 2048], k: usize) -> Self
+        requires { (11 ≤ k) × (k < 2048) }
+        ensures terms { result.terms ≡ common_terms rates.now k }
+        ensures moments { result.moments ≡ last_moments moments.now k }
+    {
+        Row {
+            terms: [
+                rates[k - 1],
+                rates[k - 1] - rates[k - 2],
+                1.0,
+                rates[k] - rates[k - 1],
+            ],
+            moments: std::array::from_fn(|j| moments[k - j]),
+        }
     }
 }
 
-fn add_common(sums: &mut [f32; 16], terms: &[f32; 4])
-    ensures { sums.new ≡ each 16 (λ n s. add binary32 s (common_product terms.now n)) sums.old }
+// One factor times each entry, added to its sum. By the place, here and below: after a loop over `iter_mut().zip(..)` a proof does
+// not know what the array holds.
+#[tactic(auto, using(rows::proofs::Each::each_next), unfolding(rows::specs::Rows::each))]
+fn add_scaled<const N: usize>(sums: &mut [f32; N], factor: f32, entries: &[f32; N])
+    ensures { sums.new ≡ each N (λ b s. add binary32 s (mul binary32 factor (at entries.now b))) sums.old }
 {
-    for q in 0..4 {
-        add_common_to(&mut *sums, terms, q);
+    for (b, sum) in sums.iter_mut().enumerate() {
+        *sum += factor * entries[b];
     }
 }
 
-// The q-th common term times the twelve last moments. By index, for the same reason.
-fn add_lagged_to(sums: &mut [f32; 48], terms: &[f32; 4], moments: &[f32; 2048], k: usize, q: usize)
-    requires { (11 ≤ k) × (k < 2048) × (q < 4) }
-    ensures { sums.new ≡ fill_from (12 * q) (λ n l. add binary32 (at l n) (lagged_product terms.now moments.now k n)) sums.old 12 }
+// Each entry of one times each of the other, added to their sums.
+#[tactic(auto, using(rows::proofs::Each::each_next), unfolding(rows::specs::Rows::each))]
+fn add_products<const M: usize, const N: usize>(
+    sums: &mut [[f32; N]; M],
+    left: &[f32; M],
+    right: &[f32; N],
+)
+    ensures { sums.new ≡ each M (λ a r. each N (λ b s. add binary32 s (mul binary32 (at left.now a) (at right.now b))) r) sums.old }
 {
-    let term = terms[q];
-    for j in 0..12 {
-        sums[12 * q + j] += term * moments[k - j];
-    }
-}
-
-fn add_lagged(sums: &mut [f32; 48], terms: &[f32; 4], moments: &[f32; 2048], k: usize)
-    requires { (11 ≤ k) × (k < 2048) }
-    ensures { sums.new ≡ each 48 (λ n s. add binary32 s (lagged_product terms.now moments.now k n)) sums.old }
-{
-    for q in 0..4 {
-        add_lagged_to(&mut *sums, terms, moments, k, q);
+    for (a, scaled) in sums.iter_mut().enumerate() {
+        add_scaled(scaled, left[a], right);
     }
 }
 
 // Moments that stand o ticks apart.
-fn add_pairs(sums: &mut [f32; 12], moments: &[f32; 2048], o: usize, k: usize)
-    requires { (11 ≤ k) × (k < 2048) × (o < 3) }
-    ensures { sums.new ≡ each (12 - o) (λ j s. add binary32 s (pair_product moments.now o k j)) sums.old }
+#[tactic(auto, using(rows::proofs::Each::each_next, crate::proofs::Tail::tail_at), unfolding(rows::specs::Rows::each))]
+fn add_pairs(sums: &mut [f32; 12], moments: &[f32; 12], o: usize)
+    requires { o < 3 }
+    ensures { sums.new ≡ each (12 - o) (λ j s. add binary32 s (mul binary32 (at moments.now j) (at moments.now (j + o)))) sums.old }
 {
-    for j in 0..12 - o {
-        sums[j] += moments[k - j] * moments[k - j - o];
+    for (j, earlier) in moments[o..].iter().enumerate() {
+        sums[j] += moments[j] * earlier;
     }
 }
 
-fn add_all_pairs(sums: &mut [[f32; 12]; 3], moments: &[f32; 2048], k: usize)
-    requires { (11 ≤ k) × (k < 2048) }
-    ensures { sums.new ≡ fill (λ o l. each (12 - o) (λ j s. add binary32 s (pair_product moments.now o k j)) (get_or l o [])) sums.old 3 }
+#[tactic(auto, using(rows::proofs::Each::each_next), unfolding(rows::specs::Rows::each))]
+fn add_all_pairs(sums: &mut [[f32; 12]; 3], moments: &[f32; 12])
+    ensures { sums.new ≡ each 3 (λ o r. each (12 - o) (λ j s. add binary32 s (mul binary32 (at moments.now j) (at moments.now (j + o)))) r) sums.old }
 {
     for (o, apart) in sums.iter_mut().enumerate() {
-        add_pairs(apart, moments, o, k);
+        add_pairs(apart, moments, o);
     }
 }
 
@@ -110,8 +113,8 @@ pub fn sum_shared(readings: Readings<'_>) -> SharedSums
         held,
     } = readings;
     let mut sums = SharedSums {
-        common: [0.0; 16],
-        lagged: [0.0; 48],
+        common: [[0.0; 4]; 4],
+        lagged: [[0.0; 12]; 4],
         pairs: [[0.0; 12]; 3],
         rows: 0,
     };
@@ -122,10 +125,10 @@ pub fn sum_shared(readings: Readings<'_>) -> SharedSums
         if run < rows::HISTORY {
             continue;
         }
-        let terms = common_terms(rates, k);
-        add_common(&mut sums.common, &terms);
-        add_lagged(&mut sums.lagged, &terms, moments, k);
-        add_all_pairs(&mut sums.pairs, moments, k);
+        let row = Row::of_tick(rates, moments, k);
+        add_products(&mut sums.common, &row.terms, &row.terms);
+        add_products(&mut sums.lagged, &row.terms, &row.moments);
+        add_all_pairs(&mut sums.pairs, &row.moments);
         sums.rows += 1;
     }
     sums

@@ -1,9 +1,10 @@
 -- What steps behind the test is what steps without it, over the calls that 10 does not turn back. Proved once for anything that steps, and for two that answer alike.
 use mathlib.Core.Path.{◌≡◌, refl, sym, ap, ap₂, subst, ◌∙◌}
-use Rattle.std.specs.Prelude.{ℕ, zero, suc, Bool, true, false, not, ◌&&◌, cond, List, [], ◌∷◌, eqb, Float}
+use Rattle.std.specs.Prelude.{ℕ, zero, suc, Bool, true, false, not, cond, List, [], ◌∷◌, eqb, Float}
 use mathlib.Core.Bool.{true≢false}
 use mathlib.Core.List.{foldl}
 use Rattle.std.proofs.Math.Bool.{and-false}
+use Rattle.std.proofs.lemmas.Bool.{and_parts, not-true}
 use Rattle.steady.specs.declared.Band.{Band}
 use Rattle.steady.specs.declared.Band.TheVariants.{Plain, Steady, Around}
 use Rattle.steady.specs.Band.{turns_back, uneven, keeps}
@@ -98,10 +99,6 @@ module _ {S C : Type 0} (runs : S → Bool) (dt_of : C → Float) (number : S �
   stable : (f : Float) (cs : List C) (g : Guarded S) → g.band ≡ Around f → (A g cs).band ≡ Around f
   stable f cs g h = band cs g ∙ ap (λ (b : Band). band_of dt_of b (H g cs)) h ∙ around_stays f (H g cs)
 
-  both_true : (x y : Bool) → (not x && y) ≡ true → (x ≡ false) × (y ≡ true)
-  both_true true y h = absurd (true≢false (sym h))
-  both_true false y h = (refl, h)
-
   within : (b : Band) (g : Guarded S) (cs : List C) (dt : Float) → g.band ≡ b → uneven (A g cs).band dt ≡ false → uneven g.band dt ≡ false
   unfolding uneven
   within Plain g cs dt e h = ap (λ (k : Band). uneven k dt) e
@@ -118,8 +115,8 @@ module _ {S C : Type 0} (runs : S → Bool) (dt_of : C → Float) (number : S �
     unfolding numbers_in without number_in next_in lie turns_back
     even [] g h = refl
     even (c ∷ cs) g h =
-        let k = both_true (uneven (A g (c ∷ cs)).band (dt_of c)) (lie dt_of (A g (c ∷ cs)).band cs) h in
-        let t : turns_back g.band (runs g.inner) (dt_of c) ≡ false = none_back (runs g.inner) (dt_of c) g.band (within g.band g (c ∷ cs) (dt_of c) refl k.0) in
+        let k = and_parts (not (uneven (A g (c ∷ cs)).band (dt_of c))) (lie dt_of (A g (c ∷ cs)).band cs) h in
+        let t : turns_back g.band (runs g.inner) (dt_of c) ≡ false = none_back (runs g.inner) (dt_of c) g.band (within g.band g (c ∷ cs) (dt_of c) refl (not-true _ k.0)) in
         let x : X g c ≡ P g c = x_is g c t in
         one_stays not_ten (turns_back g.band (runs g.inner) (dt_of c)) g c cs t (even cs (P g c) (subst (λ (y : Guarded S). lie dt_of (A y cs).band cs ≡ true) x k.1))
 

@@ -47,12 +47,12 @@ pub fn turns_back(band: Band, running: bool, dt: f32) -> bool
     running & (rules::is_positive(dt) & is_uneven(band, dt))
 }
 
-// The first dt after a call of a probe that ran or had ended, which was answered with this number.
+// The first dt after an accepted call of a probe that ran or had ended.
 #[tactic(auto, unfolding(crate::specs::Kept::first_after))]
-pub fn first_after(band: Band, number: u32, running: bool, first_dt_s: f32, dt: f32) -> f32
-    ensures { result ≡ first_after number running band first_dt_s dt }
+pub fn first_after(band: Band, running: bool, first_dt_s: f32, dt: f32) -> f32
+    ensures { result ≡ first_after 0 running band first_dt_s dt }
 {
-    if (number != 0) | !running {
+    if !running {
         return first_dt_s;
     }
     match band {

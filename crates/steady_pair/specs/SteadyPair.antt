@@ -8,8 +8,8 @@ use Rattle.two_axis.specs.Axes.{Axis, first, second, TwoCall}
 use Rattle.probe_words.specs.Layout.{Scalars, probe_in}
 use Rattle.steady.specs.Band.{turns_back}
 use Rattle.steady.specs.Kept.{band_in, first_after}
-use Rattle.steady_probe.specs.SteadyLive.{Written, runs_in}
-use Rattle.live_probe.specs.Live.{live_probe}
+use Rattle.steady_probe.specs.SteadyLive.{runs_in}
+use Rattle.live_probe.specs.Live.{Written, live_probe}
 use Rattle.live_pair.specs.Pair.{Pair, PairOpening, pair_opening, pair_open, PairFlight, pair_flight, pair_step, pair_readied}
 
 -- ---- open

@@ -9,9 +9,8 @@ use Rattle.probe_words.specs.Layout.{Scalars}
 use Rattle.steady.specs.Guarded.{without}
 use Rattle.steady.specs.Kept.{band_in}
 use Rattle.steady.specs.TwoSteady.{opened_two_in, turned_two_in, account_two_in, even_two_calls, fresh_two_in, probes_in, replies_two_in, SteadyTwoAccounted}
-use Rattle.live_probe.specs.Live.{live}
+use Rattle.live_probe.specs.Live.{Written, live}
 use Rattle.live_probe.specs.Flown.{reply_by}
-use Rattle.steady_probe.specs.SteadyLive.{Written}
 use Rattle.steady_probe.specs.SteadyFlown.{start}
 use Rattle.live_pair.specs.Pair.{Pair, pair_opening, PairOpened, pair_flight, PairStepped}
 use Rattle.live_pair.specs.Flown.{PairFlown, PairFlies, OpensPair, PairFliesOn}

@@ -3,15 +3,22 @@
 
 ghost use Rattle.std.specs.Prelude.{◌≡◌, ◌≢◌};
 ghost use Rattle.marks.specs.Marks.{KeepsMarks};
-ghost use Rattle.two_axis.specs.Axes.{first, second, two_call};
-ghost use Rattle.live_probe.specs.Live.{config_by};
-ghost use Rattle.live_pair.specs.Pair.{scalars_over, pair_over, offsets_over, scalars_read, pair_readied};
+ghost use Rattle.rules.specs.Numbers.{numbered};
+ghost use Rattle.identify.specs.Seen.{SameArrays};
+ghost use Rattle.two_axis.specs.Axes.{first, second};
+ghost use Rattle.two_axis_probe.specs.Stepped.{two_call_of};
+ghost use Rattle.live_pair.specs.Pair.{scalars_over, kept_over, offsets_over, scalars_read, pair_readied};
 ghost use Rattle.steady_pair.specs.SteadyPair.{SteadyPairOpened, both_run, SteadyPairStepped, steady_pair_readied};
 ghost use Rattle.steady_pair.specs.SteadyPairFlown.{OpensSteadyPair, OpensPlainPair, SteadyPairFliesOn, StepsPlainPair};
 
+use account::IdentifyConfig;
+use rules::Rule;
+use two_axis_probe::TwoCall;
+use window::LentArrays;
+
 // ---- open
 
-// Opens a pair in its scalars, plain or, with an option of 1, as steady; the arrays of samples may hold anything. It answers 0; 9 where an option has no meaning; or the number of the first of the rules 1 to 5 that is broken. On a number nothing is written.
+// Opens a pair in its scalars, plain or, with an option of 1, as steady; the arrays of samples may hold anything. It is refused by 9 where an option has no meaning, or by the first of the rules 1 to 5 that is broken; then nothing is written.
 pub fn open(
     words1: &mut [u32; 8],
     floats1: &mut [f32; 14],
@@ -19,40 +26,20 @@ pub fn open(
     floats2: &mut [f32; 14],
     steady: &mut u32,
     first_dt_s: &mut f32,
-    amplitude: f32,
-    duration_s: f32,
-    washout_tc_s: f32,
-    extension: u32,
-    extension_amplitude: f32,
-    extension_duration_s: f32,
+    config: IdentifyConfig,
     options: u32,
-) -> u32
-    ensures opening { SteadyPairOpened options (config_by amplitude duration_s washout_tc_s extension extension_amplitude extension_duration_s) (scalars_over words1 floats1 words2 floats2) steady first_dt_s result }
-    ensures flown { OpensSteadyPair (config_by amplitude duration_s washout_tc_s extension extension_amplitude extension_duration_s) (scalars_over words1 floats1 words2 floats2) steady first_dt_s result }
-    ensures plain { options ≢ 1 → OpensPlainPair options (config_by amplitude duration_s washout_tc_s extension extension_amplitude extension_duration_s) (scalars_over words1 floats1 words2 floats2) result }
+) -> Result<(), Rule>
+    ensures opening { SteadyPairOpened options config (scalars_over words1 floats1 words2 floats2) steady first_dt_s (numbered result) }
+    ensures flown { OpensSteadyPair config (scalars_over words1 floats1 words2 floats2) steady first_dt_s (numbered result) }
+    ensures plain { options ≢ 1 → OpensPlainPair options config (scalars_over words1 floats1 words2 floats2) (numbered result) }
 {
     if options > 1 {
-        return 9;
+        return Err(Rule::Form);
     }
-    let number = live_pair::open(
-        words1,
-        floats1,
-        words2,
-        floats2,
-        amplitude,
-        duration_s,
-        washout_tc_s,
-        extension,
-        extension_amplitude,
-        extension_duration_s,
-        0,
-    );
-    if number != 0 {
-        return number;
-    }
+    live_pair::open(words1, floats1, words2, floats2, config, 0)?;
     *steady = options;
     *first_dt_s = 0.0;
-    0
+    Ok(())
 }
 
 // ---- step
@@ -64,45 +51,36 @@ fn both_run(words1: &[u32; 8], floats1: &[f32; 14], words2: &[u32; 8], floats2: 
     steady_probe::runs(words1, floats1) & steady_probe::runs(words2, floats2)
 }
 
-// One call of both axes. It answers 0, or the number of the rule that turned the call back, 6, 10, 7 or 8, for both, and then nothing is written.
+// One call of both axes. Where one of the rules 6, 10, 7 and 8 turns it back, it does so for both, and nothing is written.
 pub fn step(
     words1: &mut [u32; 8],
     floats1: &mut [f32; 14],
-    rates1: &mut [f32; 2048],
-    moments1: &mut [f32; 2048],
-    offsets1: &mut [f32; 2048],
-    held1: &mut [bool; 2048],
+    lent1: &mut LentArrays<'_>,
     words2: &mut [u32; 8],
     floats2: &mut [f32; 14],
-    rates2: &mut [f32; 2048],
-    moments2: &mut [f32; 2048],
-    offsets2: &mut [f32; 2048],
-    held2: &mut [bool; 2048],
+    lent2: &mut LentArrays<'_>,
     steady: u32,
     first_dt_s: &mut f32,
-    dt: f32,
-    rate1: f32,
-    moment1: f32,
-    rate2: f32,
-    moment2: f32,
+    call: TwoCall,
     offset1: &mut f32,
     offset2: &mut f32,
-) -> u32
-    ensures flight { SteadyPairStepped steady first_dt_s (pair_over words1 floats1 rates1 moments1 offsets1 held1 words2 floats2 rates2 moments2 offsets2 held2) (two_call dt rate1 moment1 rate2 moment2) (offsets_over offset1 offset2) result }
-    ensures flown { SteadyPairFliesOn steady first_dt_s (pair_over words1 floats1 rates1 moments1 offsets1 held1 words2 floats2 rates2 moments2 offsets2 held2) (two_call dt rate1 moment1 rate2 moment2) (offsets_over offset1 offset2) result }
-    ensures plain { steady ≡ 0 → StepsPlainPair first_dt_s (pair_over words1 floats1 rates1 moments1 offsets1 held1 words2 floats2 rates2 moments2 offsets2 held2) (two_call dt rate1 moment1 rate2 moment2) (offsets_over offset1 offset2) result }
+) -> Result<(), Rule>
+    ensures flight { SteadyPairStepped steady first_dt_s (kept_over words1 floats1 lent1 words2 floats2 lent2) (two_call_of call) (offsets_over offset1 offset2) (numbered result) }
+    ensures same1 { SameArrays lent1.old lent1.new }
+    ensures same2 { SameArrays lent2.old lent2.new }
+    ensures flown { SteadyPairFliesOn steady first_dt_s (kept_over words1 floats1 lent1 words2 floats2 lent2) (two_call_of call) (offsets_over offset1 offset2) (numbered result) }
+    ensures plain { steady ≡ 0 → StepsPlainPair first_dt_s (kept_over words1 floats1 lent1 words2 floats2 lent2) (two_call_of call) (offsets_over offset1 offset2) (numbered result) }
 {
     let running = both_run(words1, floats1, words2, floats2);
     let band = steady::band_of(steady, *first_dt_s);
-    if steady::turns_back(band, running, dt) {
-        return 10;
+    if steady::turns_back(band, running, call.dt) {
+        return Err(Rule::UnevenDt);
     }
-    let number = live_pair::step(
-        words1, floats1, rates1, moments1, offsets1, held1, words2, floats2, rates2, moments2,
-        offsets2, held2, dt, rate1, moment1, rate2, moment2, offset1, offset2,
-    );
-    *first_dt_s = steady::first_after(band, number, running, *first_dt_s, dt);
-    number
+    live_pair::step(
+        words1, floats1, lent1, words2, floats2, lent2, call, offset1, offset2,
+    )?;
+    *first_dt_s = steady::first_after(band, running, *first_dt_s, call.dt);
+    Ok(())
 }
 
 // ---- marks

@@ -8,6 +8,10 @@ use Rattle.account.specs.declared.IdentifyConfig.{IdentifyConfig}
 use Rattle.account.specs.Probe.{Call}
 use Rattle.identify.specs.declared.IdentifyProbe.{IdentifyProbe}
 use Rattle.probe_words.specs.Layout.{Scalars}
+use Rattle.rules.specs.declared.Rule.{Rule}
+use Rattle.rules.specs.Numbers.{number_of}
+use Rattle.rules.proofs.Numbers.{above_0}
+use Rattle.steady.specs.declared.Band.{Band}
 use Rattle.steady.specs.Band.{turns_back}
 use Rattle.steady.specs.Kept.{band_in, first_after}
 use Rattle.live_probe.specs.Live.{Live, live_probe, Opening, opening, live_open, Flight, flight, live_step, readied}
@@ -48,6 +52,11 @@ module _ (c : IdentifyConfig) (s : Scalars) (steady : ℕ) (first : Float) (opti
   opened (suc n) t h k e = absurd (omega (arith, k))
 
 -- ---- step
+-- a refused call leaves the first dt as it was
+pub refused_after : (r : Rule) (running : Bool) (band : Band) (first dt : Float) → first ≡ first_after (number_of r) running band first dt
+unfolding first_after
+refused_after r running band first dt = rw (above_0 r)
+
 module _ (steady : ℕ) (first : Float) (k : Live) (y : Call) (found : Float) where
   pub turned_back : turns_back (band_in steady first) (runs_in (live_probe k)) y.dt ≡ true → steady_flight (flight 10 found k) first ≡ steady_step steady first k y found
   unfolding steady_step

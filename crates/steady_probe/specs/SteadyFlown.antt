@@ -10,9 +10,9 @@ use Rattle.steady.specs.declared.Band.{Band}
 use Rattle.steady.specs.Guarded.{without}
 use Rattle.steady.specs.Kept.{band_in}
 use Rattle.steady.specs.Steady.{opened_in, turned_in, account_in, even_calls, fresh_in, probe_in, replies_in, SteadyAccounted}
-use Rattle.live_probe.specs.Live.{Live, live, opening, live_open, flight, live_step}
+use Rattle.live_probe.specs.Live.{Written, Live, live, opening, live_open, flight, live_step}
 use Rattle.live_probe.specs.Flown.{reply_by, Flown, Flies, OpensFlight, FliesOn}
-use Rattle.steady_probe.specs.SteadyLive.{Written, steady_opening, steady_open, steady_flight, steady_step}
+use Rattle.steady_probe.specs.SteadyLive.{steady_opening, steady_open, steady_flight, steady_step}
 
 -- the band that a word opens with: none has a first dt yet
 abbrev pub start : ℕ → Band

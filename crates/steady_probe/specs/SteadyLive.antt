@@ -1,9 +1,9 @@
 -- A probe that its caller keeps and steps, opened plain or as steady: what each call answers, and what it leaves of all that it was lent. Beside the probe the caller
 -- keeps a word, not 0 where it is steady, and its first accepted dt.
 use Rattle.std.specs.Prelude.{ℕ, zero, suc, ◌≡◌, Bool, cond, leb, List, Float}
-use Rattle.std.specs.Borrow.{MutBor}
 use denote.Triple.Both.{Both}
 use Rattle.float.specs.Values.{zero32}
+use Rattle.window.specs.declared.LentArrays.{LentArrays}
 use Rattle.window.specs.Lent.{Borrowed}
 use Rattle.account.specs.declared.IdentifyConfig.{IdentifyConfig}
 use Rattle.account.specs.Probe.{Call, clock}
@@ -12,23 +12,16 @@ use Rattle.probe_words.specs.Layout.{Scalars, found_in, left_in}
 use Rattle.steady.specs.Band.{turns_back}
 use Rattle.steady.specs.Kept.{band_in, first_after}
 use Rattle.steady.specs.Steady.{is_running}
-use Rattle.live_probe.specs.Live.{Live, live_found, live_left, live_probe, Opening, opening, live_open, Flight, flight, live_step, readied}
+use Rattle.live_probe.specs.Live.{Written, Live, live_found, live_left, live_probe, Opening, opening, live_open, Flight, flight, live_step, readied}
 
 -- ---- as a contract names them, when the call starts and when it returns
--- a number that a call may write
-abbrev pub Written : Type 0 → Type 0
-Written A = Both (MutBor A) (MutBor A)
-
 -- the scalars
 abbrev pub scalars_over : Borrowed ℕ → Borrowed Float → Both Scalars Scalars
 scalars_over words floats = record { entry = found_in words floats; exit = left_in words floats }
 
 -- all that is kept of the probe
-abbrev pub live_over : Borrowed ℕ → (floats rates moments offsets : Borrowed Float) → Borrowed Bool → Both Live Live
-live_over words floats rates moments offsets held = record {
-  entry = live_found words floats rates moments offsets held;
-  exit = live_left words floats rates moments offsets held;
-}
+abbrev pub kept_over : Borrowed ℕ → Borrowed Float → Written LentArrays → Both Live Live
+kept_over words floats lent = record { entry = live_found words floats lent; exit = live_left words floats lent }
 
 -- ---- open
 -- what an opening answers, and the scalars, the word and the first dt as it leaves them

@@ -40,6 +40,7 @@ pub fn half_period_s(index: u32) -> f32
 
 impl SquareSweep {
     // A sweep at its start, high or low.
+    #[tactic(auto, unfolding(crate::specs::Sweep::started))]
     pub fn new(amplitude: f32, washout_tc_s: f32, high: bool) -> Self
         ensures { result ≡ started amplitude washout_tc_s high }
     {
@@ -54,6 +55,7 @@ impl SquareSweep {
     }
 
     // The sweep with another amplitude: edge, level and washout go on.
+    #[tactic(auto, unfolding(crate::specs::Sweep::with_amplitude))]
     pub fn with_amplitude(self, amplitude: f32) -> Self
         ensures { result ≡ with_amplitude self amplitude }
     {
@@ -61,18 +63,21 @@ impl SquareSweep {
     }
 
     // One tick: the offset at elapsed_s, dt after the last call, and the sweep after it.
+    #[tactic(auto, unfolding(crate::specs::Sweep::next_sweep))]
     pub fn next(self, dt: f32, elapsed_s: f32) -> Swept
         ensures { result ≡ next_sweep self dt elapsed_s }
     {
         self.pass_edges(elapsed_s).wash(dt)
     }
 
+    #[tactic(auto, unfolding(crate::specs::Sweep::due))]
     fn is_due(self, elapsed_s: f32) -> bool
         ensures { result ≡ due elapsed_s self }
     {
         self.next_edge_s <= elapsed_s
     }
 
+    #[tactic(auto, unfolding(crate::specs::Sweep::pass_edge))]
     fn pass_edge(self) -> Self
         requires { self.edge < 32769 }
         ensures { result ≡ pass_edge self }
@@ -98,6 +103,7 @@ impl SquareSweep {
     }
 
     // The wave at a tick, less its washout.
+    #[tactic(auto, unfolding(crate::specs::Sweep::swept, crate::specs::Sweep::washed))]
     fn wash(self, dt: f32) -> Swept
         ensures { result ≡ swept self dt }
     {
@@ -110,12 +116,14 @@ impl SquareSweep {
         }
     }
 
+    #[tactic(auto, unfolding(crate::specs::Sweep::square))]
     fn level(self) -> f32
         ensures { result ≡ square self }
     {
         if self.high { self.amplitude } else { 0.0 }
     }
 
+    #[tactic(auto, unfolding(crate::specs::Sweep::with_washout))]
     fn with_washout(self, washout: f32) -> Self
         ensures { result ≡ with_washout self washout }
     {

@@ -2,11 +2,12 @@
 // Lag, leaky sum and products go in one pass, with no series stored.
 #![tactic(auto)]
 
-ghost use Rattle.std.specs.Prelude.{◌≡◌, ◌-◌, min};
+ghost use Rattle.std.specs.Prelude.{◌≡◌, ◌-◌, ◌≤◌, min};
 ghost use Rattle.float.specs.Series.{at};
+ghost use Rattle.lags.specs.Lags.{lag_to};
 ghost use Rattle.gain.specs.Gain.{first_tick, regressor, through, gain_fit};
 ghost use Rattle.gain.specs.Prepared.{ticks_of, fit_of, Summed};
-ghost use Rattle.trial.specs.Trial.{first_moment, lag_of_all};
+ghost use Rattle.trial.specs.Trial.{first_moment};
 
 use gain::{FitInput, GainFit, StepSums};
 
@@ -18,11 +19,12 @@ fn first_moment(step: usize) -> usize
     12usize.saturating_sub(whole)
 }
 
-// All of the moments through a lag.
-fn lag_before(moments: &[f32], pole: f32) -> f32
-    ensures { result ≡ lag_of_all pole moments.now }
+// The first n moments through a lag.
+fn lag_before(moments: &[f32; 2048], n: usize, pole: f32) -> f32
+    requires { n ≤ 2048 }
+    ensures { result ≡ lag_to pole (at moments.now) n }
 {
-    moments.iter().fold(0.0f32, |lagged, moment| gain::lag_on(pole, lagged, *moment))
+    moments[..n].iter().fold(0.0f32, |lagged, moment| gain::lag_on(pole, lagged, *moment))
 }
 
 // The sums of one step at one pole.
@@ -37,7 +39,7 @@ fn step_sums(input: FitInput<'_>, step: usize, pole: f32) -> StepSums
     } = input;
     let first = first_moment(step);
     let half = step % 2 == 1;
-    let mut lagged = lag_before(&moments[..first], pole);
+    let mut lagged = lag_before(moments, first, pole);
     let mut last = f64::from(lagged);
     let mut m = 0.0f64;
     let mut sums = StepSums {
@@ -46,18 +48,22 @@ fn step_sums(input: FitInput<'_>, step: usize, pole: f32) -> StepSums
         mt: 0.0,
     };
     let n = shared.fitted();
-    // By index: three series side by side, one of them from first on. Zipped they are three ranges and a nested pattern, which is no plainer.
-    for i in 0..n {
-        lagged = gain::lag_on(pole, lagged, moments[first + i]);
+    let series = moments[first..first + n]
+        .iter()
+        .zip(&constants[..n])
+        .zip(&changes[..n]);
+    for ((moment, c), t) in series {
+        lagged = gain::lag_on(pole, lagged, *moment);
         let now = f64::from(lagged);
         m = shared.carry * m + gain::blend(half, now, last);
-        sums = sums.plus(m, constants[i], changes[i]);
+        sums = sums.plus(m, *c, *t);
         last = now;
     }
     sums
 }
 
 // The fit of a step at a pole, from what a window's fits read.
+#[tactic(auto, using(gain::proofs::Window::solved_is))]
 pub fn fit_at(input: FitInput<'_>, step: usize, pole: f32) -> Option<GainFit>
     ensures { result ≡ fit_of input.entry step pole }
 {

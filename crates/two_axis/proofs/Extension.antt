@@ -1,7 +1,8 @@
 -- Where either axis wishes for the extension, both take it.
 use Prim.Native.Nat.{ℕ}
 use mathlib.Core.Path.{◌≡◌, refl, sym, ap, subst₂, ◌∙◌}
-use mathlib.Core.Bool.{Bool, true, false, not, ◌&&◌, ◌||◌, or-true, true≢false}
+use mathlib.Core.Bool.{Bool, true, false, not, ◌&&◌, ◌||◌, or-true}
+use Rattle.std.proofs.lemmas.Bool.{and_parts, not-true}
 use lib.Ieee.{Float, binary32, add, lt}
 use Rattle.account.specs.declared.IdentifyExtension.{IdentifyExtension}
 use Rattle.std.specs.Prelude.{Option, Some, None}
@@ -10,15 +11,6 @@ use Rattle.account.specs.Account.{Account, entry, counted, is_integrated, accoun
 use Rattle.two_axis.specs.Axes.{Axis, first, second, TwoCall, call_of, tied}
 use Rattle.two_axis.specs.Accounts.{Accounts, wishes, next_two}
 use Rattle.two_axis.proofs.Together.{Together, both}
-
-all : (r s t : Bool) → (r && s && t) ≡ true → (r ≡ true) × (s ≡ true) × (t ≡ true)
-all true true t h = (refl, refl, h)
-all true false t h = absurd (true≢false (sym h))
-all false s t h = absurd (true≢false (sym h))
-
-not_true : (b : Bool) → not b ≡ true → b ≡ false
-not_true true h = absurd (true≢false (sym h))
-not_true false h = refl
 
 module _ (e : IdentifyExtension) where
   abbrev Taken : Float → Option IdentifyExtension → Type 0
@@ -42,9 +34,11 @@ module _ (e : IdentifyExtension) where
         → Taken (next_two a k x).end (next_two a k x).unused
     unfolding wishes counted entry turned
     own x t w u =
-        let s = all (a x).running (not (lt (add binary32 (a x).elapsed k.dt) (a x).end)) (is_integrated (account_class (counted (a x) (call_of k x false)))) w in
+        let late = not (lt (add binary32 (a x).elapsed k.dt) (a x).end) in
+        let (ending, integrated) = and_parts ((a x).running && late) (is_integrated (account_class (counted (a x) (call_of k x false)))) w in
+        let (runs, reached) = and_parts (a x).running late ending in
         let asked = (tied wishes a k x).asked in
-        nexts (a x) (tied wishes a k x) s.0 t (not_true _ s.1) (ap (λ (b : Bool). asked || b) s.2 ∙ or-true asked) u
+        nexts (a x) (tied wishes a k x) runs t (not-true _ reached) (ap (λ (b : Bool). asked || b) integrated ∙ or-true asked) u
 
     -- the two have one end and one extension, so what one takes the other takes
     pub extended : (x y : Axis) → turned (a x) (call_of k x false) ≡ 0 → wishes (a x) (call_of k x false) ≡ true → (a x).unused ≡ Some e

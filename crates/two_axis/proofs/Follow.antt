@@ -1,7 +1,7 @@
 -- Each axis is a single probe over its own calls: the wish of a probe is that of its account, so the two say the same bits.
 use mathlib.Core.Path.{◌≡◌, refl, sym, ap, subst, ◌∙◌}
 use mathlib.Core.Bool.{Bool, true, false, not, ◌&&◌}
-use Rattle.std.specs.Prelude.{Option, Some, None}
+use Rattle.std.specs.Prelude.{Some}
 use mathlib.Core.List.{List, [], ◌∷◌}
 use lib.Ieee.{Float, binary32, add, lt}
 use Rattle.sweep.specs.declared.SquareSweep.{SquareSweep}

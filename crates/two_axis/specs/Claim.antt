@@ -3,7 +3,7 @@
 use Rattle.std.specs.Prelude.{◌≡◌, true, false, not, List, ◌++◌, map}
 use Rattle.account.specs.declared.IdentifyConfig.{IdentifyConfig}
 use Rattle.account.specs.declared.IdentifyExtension.{IdentifyExtension}
-use Rattle.std.specs.Prelude.{Option, Some, None}
+use Rattle.std.specs.Prelude.{Some, None}
 use Rattle.account.specs.Probe.{clock, fresh_at, after, replies, number}
 use Rattle.account.specs.Account.{turned}
 use Rattle.account.specs.Claim.{Accounted}

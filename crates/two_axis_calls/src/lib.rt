@@ -1,28 +1,19 @@
 // The calls of a byte run of two axes, one at a time: read from their bytes, and answered by two words.
 #![tactic(auto)]
 
-ghost use Rattle.std.specs.Prelude.{◌≡◌, ◌≤◌};
-ghost use Rattle.wire.specs.Words.{bytes_of, written_within};
-ghost use Rattle.account.specs.Probe.{number};
-ghost use Rattle.two_axis.specs.Axes.{first};
-ghost use Rattle.two_axis_probe.specs.Stepped.{probes_of, lents_over, leaves_two, reply_two};
-ghost use Rattle.two_axis_calls.specs.Calls.{call_at, as_call, words_within, WordsIn, RunsCall};
+ghost use Rattle.std.specs.Prelude.{◌≡◌};
+ghost use Rattle.rules.specs.Numbers.{numbers};
+ghost use Rattle.two_axis_probe.specs.Stepped.{two_call_of, answer_of, LeavesTwo};
+ghost use Rattle.two_axis_calls.specs.Calls.{call_at, answer_words, words_within};
 
-use two_axis_probe::{TwoAxisProbe, TwoStepped};
-
-// One call of a run.
-#[derive(Clone, Copy)]
-struct TwoCall {
-    dt: f32,
-    rate1: f32,
-    moment1: f32,
-    rate2: f32,
-    moment2: f32,
-}
+use rules::Rule;
+use two_axis_probe::{TwoAxisProbe, TwoCall};
+use window::LentArrays;
 
 // The call of 20 bytes; one past the end reads as 0.
+#[tactic(auto, unfolding(crate::specs::Calls::call_at))]
 fn call_of(bytes: &[u8]) -> TwoCall
-    ensures { as_call result ≡ call_at bytes.now 0 }
+    ensures { two_call_of result ≡ call_at bytes.now 0 }
 {
     TwoCall {
         dt: wire::read_float(bytes, 0),
@@ -33,69 +24,32 @@ fn call_of(bytes: &[u8]) -> TwoCall
     }
 }
 
-// Two words at the front of a slice, each where it fits.
-fn write_words(output: &mut [u8], word1: u32, word2: u32)
-    ensures { output.new ≡ written_within 4 (bytes_of 4 word2) (written_within 0 (bytes_of 4 word1) output.old) }
+// The words of an answer, the first axis's and then the second's: the offsets, 0 of an ended probe, or twice 7FC00000 and the number of the rule that turned the call back.
+#[tactic(auto, unfolding(rules::specs::Numbers::numbers, two_axis_probe::specs::Stepped::reply_two, byte_run::specs::ByteRun::reply_word), using(rules::proofs::Numbers::at_most_10))]
+fn words_of(answer: Result<Option<(f32, f32)>, Rule>) -> [u32; 2]
+    ensures { result ≡ answer_words (numbers answer) }
 {
-    wire::write_word(output, 0, word1);
-    wire::write_word(output, 4, word2);
-}
-
-// What a call answers. Its words, the first axis's and then the second's, are written to the first eight bytes of the output: the offsets, 0 of an ended probe, or twice 7FC00000 and the number of the rule that turned the call back.
-// The result is the probe that the call leaves, an ended one or on a refusal the one that it found.
-fn answer(stepped: TwoStepped, probe: TwoAxisProbe, output: &mut [u8]) -> TwoAxisProbe
-    requires { number (reply_two stepped first) ≤ 8 }
-    ensures probe { probes_of result ≡ leaves_two stepped (probes_of probe) }
-    ensures output { output.new ≡ words_within stepped output.old }
-{
-    match stepped {
-        TwoStepped::Offsets(x, y, next) => {
-            write_words(output, float::to_word(x), float::to_word(y));
-            next
-        }
-        TwoStepped::Ended => {
-            write_words(output, float::to_word(0.0), float::to_word(0.0));
-            probe
-        }
-        TwoStepped::Refused(n) => {
-            let word = 0x7fc0_0000 + n;
-            write_words(output, word, word);
-            probe
+    match answer {
+        Ok(Some((x, y))) => [float::to_word(x), float::to_word(y)],
+        Ok(None) => [float::to_word(0.0), float::to_word(0.0)],
+        Err(rule) => {
+            let word = 0x7fc0_0000 + rule.number();
+            [word, word]
         }
     }
 }
 
 // A call from its 20 bytes to its two words, at the front of the output.
 pub fn run_call(
-    probe: TwoAxisProbe,
-    rates1: &mut [f32; 2048],
-    moments1: &mut [f32; 2048],
-    offsets1: &mut [f32; 2048],
-    held1: &mut [bool; 2048],
-    rates2: &mut [f32; 2048],
-    moments2: &mut [f32; 2048],
-    offsets2: &mut [f32; 2048],
-    held2: &mut [bool; 2048],
+    probe: &mut TwoAxisProbe,
+    lent1: &mut LentArrays<'_>,
+    lent2: &mut LentArrays<'_>,
     bytes: &[u8],
     output: &mut [u8],
-) -> TwoAxisProbe
-    ensures { RunsCall probe (lents_over rates1 moments1 offsets1 held1 rates2 moments2 offsets2 held2) (call_at bytes.now 0) result (WordsIn output) }
+)
+    ensures left { LeavesTwo probe.old probe.new lent1.old lent1.new lent2.old lent2.new (answer_of probe.old lent1.old lent2.old (call_at bytes.now 0)) }
+    ensures output { output.new ≡ words_within (answer_of probe.old lent1.old lent2.old (call_at bytes.now 0)).answer output.old }
 {
-    let call = call_of(bytes);
-    let stepped = probe.step(
-        rates1,
-        moments1,
-        offsets1,
-        held1,
-        rates2,
-        moments2,
-        offsets2,
-        held2,
-        call.dt,
-        call.rate1,
-        call.moment1,
-        call.rate2,
-        call.moment2,
-    );
-    answer(stepped, probe, output)
+    let answer = probe.step(lent1, lent2, call_of(bytes));
+    wire::write_words(output, 0, &words_of(answer));
 }

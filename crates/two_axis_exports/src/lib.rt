@@ -1,4 +1,5 @@
 // The function for two axes that the static library exports.
+// C takes a number for an answer, so it answers one.
 #![tactic(auto)]
 
 ghost use Rattle.std.specs.Prelude.{◌≡◌};
@@ -14,5 +15,5 @@ pub extern "C" fn identify_two_axis_run(config: &[u8], calls: &[u8], output: &mu
     ensures models { TellsModels result output.new }
     ensures sums { TellsSumsOf config.now calls.now result output.new }
 {
-    two_axis_run::two_axis_run(config, calls, output)
+    rules::number_or_0(two_axis_run::two_axis_run(config, calls, output))
 }

@@ -18,26 +18,32 @@ use Rattle.two_axis.specs.Axes.{Axis, first, second, level, axes, TwoCall, call_
 use Rattle.two_axis.specs.Probes.{Probes, fresh_two, step_two, moved, after_two}
 use Rattle.two_axis.specs.Accounts.{opened_two, account_two}
 use Rattle.two_axis.proofs.Theorem.{two_accounted}
-use Rattle.two_axis_probe.specs.Stepped.{Structs, Lents, probes_of, seen_two, fresh_two_axis, tied_in, two_ticked, either_number, number_in, two_answer_by, two_stepped_by, leaves_two, reply_two}
+use Rattle.two_axis_probe.specs.Stepped.{Structs, Lents, probes_of, seen_two, probes_left, lents_left, fresh_two_axis, tied_in, two_ticked, either_number, number_in, two_answer_by, two_stepped_by, reply_two}
 use Rattle.two_axis_probe.specs.Held.{Stands, HoldsTwo}
 use Rattle.two_axis_probe.proofs.Stepping.{steps}
 
+-- what is so of each axis is so of both
+pub by_axis : (P : Axis → Type 0) → P first → P second → (x : Axis) → P x
+by_axis P a b first = a
+by_axis P a b second = b
+
 -- a call leaves the arrays as long as they were, and counts no more than they hold
 module _ (p : Structs) (l : Lents) (c : TwoCall) where
-  still_whole : (n : ℕ) (t u : Option Float) → ((x : Axis) → Whole (l x)) → (x : Axis) → Whole ((two_answer_by n t u p l c).lent x)
+  still_whole : (n : ℕ) (t u : Option Float) → ((x : Axis) → Whole (l x)) → (x : Axis) → Whole (lents_left (two_answer_by n t u p l c) x)
   unfolding two_answer_by two_ticked
-  still_whole (suc n) t u w x = w x
-  still_whole zero None u w x = w x
-  still_whole zero (Some e) None w x = w x
-  still_whole zero (Some e) (Some d) w x = stored_whole (p x) (l x) (call_of c x false) (axes e d x) (w x)
+  still_whole (suc n) t u w = by_axis _ (w first) (w second)
+  still_whole zero None u w = by_axis _ (w first) (w second)
+  still_whole zero (Some e) None w = by_axis _ (w first) (w second)
+  still_whole zero (Some e) (Some d) w =
+      by_axis _ (stored_whole (p first) (l first) (call_of c first false) e (w first)) (stored_whole (p second) (l second) (call_of c second false) d (w second))
 
-  still_fits : (n : ℕ) (t u : Option Float) → ((x : Axis) → (p x).window.len ≤ capacity) → (x : Axis) → (leaves_two (two_answer_by n t u p l c).result p x).window.len ≤ capacity
-  unfolding two_answer_by two_ticked leaves_two
-  still_fits (suc n) t u h x = h x
-  still_fits zero None u h x = h x
-  still_fits zero (Some e) None h x = h x
-  still_fits zero (Some e) (Some d) h first = ticked_fits (p first) (l first) (tied_in (axes e d) p l c first) e (h first)
-  still_fits zero (Some e) (Some d) h second = ticked_fits (p second) (l second) (tied_in (axes e d) p l c second) d (h second)
+  still_fits : (n : ℕ) (t u : Option Float) → ((x : Axis) → (p x).window.len ≤ capacity) → (x : Axis) → (probes_left (two_answer_by n t u p l c) x).window.len ≤ capacity
+  unfolding two_answer_by two_ticked
+  still_fits (suc n) t u h = by_axis _ (h first) (h second)
+  still_fits zero None u h = by_axis _ (h first) (h second)
+  still_fits zero (Some e) None h = by_axis _ (h first) (h second)
+  still_fits zero (Some e) (Some d) h =
+      by_axis _ (ticked_fits (p first) (l first) (tied_in (axes e d) p l c first) e (h first)) (ticked_fits (p second) (l second) (tied_in (axes e d) p l c second) d (h second))
 
 module _ (c : IdentifyConfig) where
   begin : (l : Lents) (x : Axis) → seen_two (probes_of (fresh_two_axis c)) l x ≡ fresh_two c x
@@ -66,15 +72,15 @@ module _ {c : IdentifyConfig} {calls : List TwoCall} {p : Structs} {l : Lents} (
   -- one call more
   module _ (k : TwoCall) where
     stepped : (x : Axis)
-        → ◌≡◌ {A = Step} (record { probe = seen_two (leaves_two (two_stepped_by p l k).result p) (two_stepped_by p l k).lent x; reply = reply_two (two_stepped_by p l k).result x }) (step_two (after_two (fresh_two c) calls) k x)
+        → ◌≡◌ {A = Step} (record { probe = seen_two (probes_left (two_stepped_by p l k)) (lents_left (two_stepped_by p l k)) x; reply = reply_two (two_stepped_by p l k).answer x }) (step_two (after_two (fresh_two c) calls) k x)
     stepped x =
         let a = holds.accounted in
         steps p l k h.whole (unfold seen in a.ended) (unfold seen in a.ticks) x ∙ ap (λ (q : Probes). step_two q k x) seen_all
 
-    pub replies_on : (x : Axis) → reply_two (two_stepped_by p l k).result x ≡ (step_two (after_two (fresh_two c) calls) k x).reply
+    pub replies_on : (x : Axis) → reply_two (two_stepped_by p l k).answer x ≡ (step_two (after_two (fresh_two c) calls) k x).reply
     replies_on x = ap (λ (s : Step). s.reply) (stepped x)
 
-    pub goes_on : Stands c (calls ++ (k ∷ [])) (leaves_two (two_stepped_by p l k).result p) (two_stepped_by p l k).lent
+    pub goes_on : Stands c (calls ++ (k ∷ [])) (probes_left (two_stepped_by p l k)) (lents_left (two_stepped_by p l k))
     unfolding two_stepped_by
     goes_on =
         let n = either_number (number_in p k.dt first) (number_in p k.dt second) in

@@ -14,13 +14,12 @@ use Rattle.account.specs.Probe.{Call, Probe, Step, clock, tick, answer, step}
 use Rattle.account.specs.Account.{is_integrated}
 use Rattle.closing.specs.Ending.{due_by, asks_of}
 use Rattle.identify.specs.declared.IdentifyProbe.{IdentifyProbe}
-use Rattle.identify.specs.Seen.{seen, begun_by, stored_in, ticked_probe, ticked, leaves, reply_of}
+use Rattle.identify.specs.Seen.{seen, begun_by, stored_in, ticked_probe, ticked, reply_of}
 use Rattle.identify.proofs.Ticking.{ticks}
 use Rattle.identify.proofs.Stepping.{few_ticks}
 use Rattle.two_axis.specs.Axes.{Axis, first, second, other, axes, TwoCall, call_of, tied}
 use Rattle.two_axis.specs.Probes.{wishes_at, wishes, step_two}
-use Rattle.two_axis_probe.specs.declared.TwoStepped.TheVariants.{Ended, Refused}
-use Rattle.two_axis_probe.specs.Stepped.{Structs, Lents, seen_two, TwoAnswer, wish_in, tied_in, two_ticked, either_number, two_answer_by, number_in, two_stepped_by, leaves_two, reply_two}
+use Rattle.two_axis_probe.specs.Stepped.{Structs, Lents, seen_two, TwoAnswer, probes_left, lents_left, wish_in, tied_in, two_ticked, either_number, two_answer_by, number_in, two_stepped_by, reply_two}
 
 -- no rule turns a call back that neither axis's turns back
 pub neither : (m n : ℕ) → either_number m n ≡ 0 → (m ≡ 0) × (n ≡ 0)
@@ -28,40 +27,12 @@ unfolding either_number
 neither zero n h = (refl, h)
 neither (suc m) n h = absurd (omega arith)
 
-pub by_first : (m n : ℕ) → (m ≡ 0 → ⊥) → m ≡ either_number m n
-unfolding either_number
-by_first zero n h = absurd (h refl)
-by_first (suc m) n h = refl
+-- then an axis that runs has room for one more tick
+pub few_first : (e : Float) (ticks : ℕ) (dt : Float) (n : ℕ) → either_number (refusal (Some e) ticks dt) n ≡ 0 → ticks < 16_777_216
+few_first e ticks dt n h = few_ticks e ticks dt (neither _ _ h).0
 
-module _ (p : Structs) (l : Lents) (c : TwoCall) where
-  abbrev number : ℕ
-  number = either_number (number_in p c.dt first) (number_in p c.dt second)
-
-  by : (n : ℕ) (t u : Option Float) → n ≡ number → t ≡ clock (p first).status → u ≡ clock (p second).status → two_answer_by n t u p l c ≡ two_stepped_by p l c
-  unfolding two_stepped_by
-  by n t u hn ht hu = rw (hn, ht, hu)
-
-  pub turned_back : (n : ℕ) → n ≡ number → (n ≡ 0 → ⊥) → ◌≡◌ {A = TwoAnswer} (record { result = Refused n; lent = l }) (two_stepped_by p l c)
-  unfolding two_answer_by
-  turned_back zero h k = absurd (k refl)
-  turned_back (suc n) h k = by (suc n) (clock (p first).status) (clock (p second).status) h refl refl
-
-  pub first_stopped : 0 ≡ number → None ≡ clock (p first).status → ◌≡◌ {A = TwoAnswer} (record { result = Ended; lent = l }) (two_stepped_by p l c)
-  unfolding two_answer_by
-  first_stopped h t = by 0 None (clock (p second).status) h t refl
-
-  pub second_stopped : (e : Float) → 0 ≡ number → Some e ≡ clock (p first).status → None ≡ clock (p second).status → ◌≡◌ {A = TwoAnswer} (record { result = Ended; lent = l }) (two_stepped_by p l c)
-  unfolding two_answer_by
-  second_stopped e h t u = by 0 (Some e) None h t u
-
-  pub both_run : (e d : Float) → 0 ≡ number → Some e ≡ clock (p first).status → Some d ≡ clock (p second).status → two_ticked (axes e d) p l c ≡ two_stepped_by p l c
-  unfolding two_answer_by
-  both_run e d h t u = by 0 (Some e) (Some d) h t u
-
-  -- then either axis has room for one more tick
-  pub few : (x : Axis) (e : Float) → 0 ≡ number → Some e ≡ clock (p x).status → (p x).ticks < 16_777_216
-  few first e h t = few_ticks e (p first).ticks c.dt (rw (← t) at (neither _ _ (sym h)).0)
-  few second e h t = few_ticks e (p second).ticks c.dt (rw (← t) at (neither _ _ (sym h)).1)
+pub few_second : (m : ℕ) (e : Float) (ticks : ℕ) (dt : Float) → either_number m (refusal (Some e) ticks dt) ≡ 0 → ticks < 16_777_216
+few_second m e ticks dt h = few_ticks e ticks dt (neither _ _ h).1
 
 -- ---- the definitions' step
 -- an axis's wish is the one that is seen
@@ -72,7 +43,7 @@ due_asks false w = refl
 
 module _ (e : Float) (p : IdentifyProbe) (l : Lent) (c : Call) (whole : Whole l) where
   sees : seen (ticked_probe e p l c) (stored_in e p l c) ≡ (tick e (seen p l) c).probe
-  unfolding ticked leaves
+  unfolding ticked
   sees = ap (λ (s : Step). s.probe) (ticks p e c l whole)
 
   samples_are : samples_of (begun_by e p c.dt).window (stored_in e p l c) ≡ (tick e (seen p l) c).probe.samples
@@ -88,7 +59,7 @@ module _ (e : Float) (p : IdentifyProbe) (l : Lent) (c : Call) (whole : Whole l)
 
 module _ (p : Structs) (l : Lents) (c : TwoCall) (whole : (x : Axis) → Whole (l x)) where
   abbrev axis_of : TwoAnswer → Axis → Step
-  axis_of a x = record { probe = seen_two (leaves_two a.result p) a.lent x; reply = reply_two a.result x }
+  axis_of a x = record { probe = seen_two (probes_left a) (lents_left a) x; reply = reply_two a.answer x }
 
   -- both run, for the same time
   module _ (e : Float) where
@@ -98,16 +69,18 @@ module _ (p : Structs) (l : Lents) (c : TwoCall) (whole : (x : Axis) → Whole (
     tied_seen second h = ap (λ (b : Bool). call_of c second b) (wish_seen e (p first) (l first) (call_of c first false) (whole first) ∙ unfold seen in rw h)
 
     ticks_axis : (x : Axis) → axis_of (two_ticked (axes e e) p l c) x ≡ tick e (seen_two p l x) (tied_in (axes e e) p l c x)
-    unfolding two_ticked leaves_two reply_two ticked leaves reply_of stored_in
+    unfolding two_ticked reply_two ticked reply_of stored_in
     ticks_axis first = ticks (p first) e (tied_in (axes e e) p l c first) (l first) (whole first)
     ticks_axis second = ticks (p second) e (tied_in (axes e e) p l c second) (l second) (whole second)
 
   -- the answer of both is each axis's own
   answers : (n : ℕ) (t : Option Float) → ((x : Axis) → clock (p x).status ≡ t) → (x : Axis)
       → axis_of (two_answer_by n t t p l c) x ≡ answer n t (seen_two p l x) (tied wishes (seen_two p l) c x)
-  unfolding two_answer_by answer leaves_two reply_two
-  answers (suc n) t h x = refl
-  answers zero None h x = refl
+  unfolding two_answer_by answer reply_two
+  answers (suc n) t h first = refl
+  answers (suc n) t h second = refl
+  answers zero None h first = refl
+  answers zero None h second = refl
   answers zero (Some e) h x = ticks_axis e x ∙ ap (tick e (seen_two p l x)) (tied_seen e x (h (other x)))
 
   -- two axes with one clock and as many ticks

@@ -11,14 +11,7 @@ use Rattle.closing.proofs.Closing.{halves}
 use Rattle.identify.specs.declared.Begun.{Begun}
 use Rattle.identify.specs.declared.IdentifyProbe.{IdentifyProbe}
 use Rattle.identify.specs.Seen.{begun_by, stored_in, ticked_probe}
-use Rattle.two_axis.specs.Axes.{Axis, first, second, TwoCall}
-use Rattle.two_axis_probe.specs.declared.TwoStepped.TheVariants.{Offsets}
-use Rattle.two_axis_probe.specs.Stepped.{Structs, Lents, tick_ended, tick_ahead, wish_in, ticked_axis, two_ticked}
-
--- what is so of each axis is so of both
-pub by_axis : (P : Axis → Type 0) → P first → P second → (x : Axis) → P x
-by_axis P a b first = a
-by_axis P a b second = b
+use Rattle.two_axis_probe.specs.Stepped.{tick_ended, tick_ahead, wish_in}
 
 -- one axis: its halves, with the sample stored in k, and what its window is found to be
 module _ (e : Float) (p : IdentifyProbe) (l : Lent) (dt rate moment : Float) (b : Begun) (k : Lent) (d : Option Classified)
@@ -40,10 +33,3 @@ pub runs_on : (e : Float) (p : IdentifyProbe) (l : Lent) (dt rate moment : Float
     → tick_ahead p b ≡ ticked_probe e p l (record { dt = dt; rate = rate; moment = moment; asked = asked })
 unfolding due_by closed_due
 runs_on e p l dt rate moment b k hb hk below asked = leaves e p l dt rate moment b k None hb hk (rw below) asked
-
--- both
-pub made : (e : Axis → Float) (p : Structs) (l : Lents) (c : TwoCall) (b d : Begun) (q r : IdentifyProbe)
-    → b ≡ begun_by (e first) (p first) c.dt → d ≡ begun_by (e second) (p second) c.dt → q ≡ ticked_axis e p l c first → r ≡ ticked_axis e p l c second
-    → Offsets b.offset d.offset (record { first = q; second = r }) ≡ (two_ticked e p l c).result
-unfolding two_ticked
-made e p l c b d q r hb hd hq hr = rw (hb, hd, hq, hr)

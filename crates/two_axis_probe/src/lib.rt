@@ -1,16 +1,20 @@
 // The probe of two axes: two probes that are stepped together, and share their extension.
 #![tactic(auto)]
 
-ghost use Rattle.std.specs.Prelude.{◌≡◌, ◌<◌};
-ghost use Rattle.account.specs.Rules.{refusal};
+ghost use Rattle.std.specs.Prelude.{◌≡◌, ◌<◌, Ok, Some};
+ghost use Rattle.account.specs.Rules.{broken, refusal};
 ghost use Rattle.account.specs.Probe.{clock};
-ghost use Rattle.two_axis.specs.Axes.{axes, two_call};
-ghost use Rattle.two_axis_probe.specs.Stepped.{probes_of, fresh_two_axis, either_number, lents_over, tick_ended, tick_ahead, AnswersTwo, two_ticked, two_stepped_by};
+ghost use Rattle.window.specs.Lent.{arrays_in, Leaves};
+ghost use Rattle.rules.specs.Numbers.{numbered, numbers};
+ghost use Rattle.identify.specs.Seen.{call_of, begun_by, stored_in};
+ghost use Rattle.two_axis.specs.Axes.{axes};
+ghost use Rattle.two_axis_probe.specs.Stepped.{probes_of, lents_of, two_call_of, fresh_two_axis, either_number, two_opened_by, tick_ended, tick_ahead, two_ticked, answer_of, LeavesTwo};
 
 use account::IdentifyConfig;
-use identify::{Begun, IdentifyProbe};
+use identify::{Begun, Call, IdentifyProbe};
 use recorded::Classified;
-use window::Readings;
+use rules::Rule;
+use window::{LentArrays, Readings};
 
 #[derive(Clone, Copy)]
 pub struct TwoAxisProbe {
@@ -18,32 +22,56 @@ pub struct TwoAxisProbe {
     pub second: IdentifyProbe,
 }
 
-// What a call answers: both offsets with the next probe; that the probe has ended, so both offsets are 0 and it stays as it is; or the number of the rule that turns the call back.
+// One call of both axes: the seconds since the last one, and each axis's body rate at this tick with the moment commanded on the last one.
 #[derive(Clone, Copy)]
-pub enum TwoStepped {
-    Offsets(f32, f32, TwoAxisProbe),
-    Ended,
-    Refused(u32),
+pub struct TwoCall {
+    pub dt: f32,
+    pub rate1: f32,
+    pub moment1: f32,
+    pub rate2: f32,
+    pub moment2: f32,
+}
+
+impl TwoCall {
+    // The first axis's own call.
+    fn first(self) -> Call
+        ensures { result ≡ record { dt = self.dt; rate = self.rate1; moment = self.moment1 } }
+    {
+        Call {
+            dt: self.dt,
+            rate: self.rate1,
+            moment: self.moment1,
+        }
+    }
+
+    // The second axis's own call.
+    fn second(self) -> Call
+        ensures { result ≡ record { dt = self.dt; rate = self.rate2; moment = self.moment2 } }
+    {
+        Call {
+            dt: self.dt,
+            rate: self.rate2,
+            moment: self.moment2,
+        }
+    }
 }
 
 // ---- the rules
 
-// The number of the rule that turns a call of one axis back, 0 if none does.
-fn number_of(probe: IdentifyProbe, dt: f32) -> u32
-    ensures { result ≡ refusal (clock probe.status) probe.ticks dt }
+// A call of one axis is turned back by the first of the rules 6 to 8 that it breaks.
+fn validate_axis(probe: IdentifyProbe, dt: f32) -> Result<(), Rule>
+    ensures { numbered result ≡ refusal (clock probe.status) probe.ticks dt }
 {
-    rules::refuses(probe.status.clock(), probe.ticks, dt)
+    rules::validate_call(probe.status.clock(), probe.ticks, dt)
 }
 
-// A call is turned back for both axes: by the first one's number, or else by the second one's.
-fn either_number(first: IdentifyProbe, second: IdentifyProbe, dt: f32) -> u32
-    ensures { result ≡ either_number (refusal (clock first.status) first.ticks dt) (refusal (clock second.status) second.ticks dt) }
+// A call is turned back for both axes: by the first one's rule, or else by the second one's.
+#[tactic(auto, unfolding(crate::specs::Stepped::either_number, rules::specs::Numbers::numbered), using(rules::proofs::Numbers::above_0))]
+fn validate_both(probe: TwoAxisProbe, dt: f32) -> Result<(), Rule>
+    ensures { numbered result ≡ either_number (refusal (clock probe.first.status) probe.first.ticks dt) (refusal (clock probe.second.status) probe.second.ticks dt) }
 {
-    let number = number_of(first, dt);
-    if number != 0 {
-        return number;
-    }
-    number_of(second, dt)
+    validate_axis(probe.first, dt)?;
+    validate_axis(probe.second, dt)
 }
 
 // ---- a call
@@ -75,71 +103,6 @@ fn run_on(probe: IdentifyProbe, begun: Begun) -> IdentifyProbe
     )
 }
 
-// A call that no rule turns back, of axes that have run for elapsed1 and elapsed2. Both samples are stored before either window is looked at, and both windows are looked at before either axis goes on.
-fn tick(
-    first: IdentifyProbe,
-    second: IdentifyProbe,
-    elapsed1: f32,
-    elapsed2: f32,
-    rates1: &mut [f32; 2048],
-    moments1: &mut [f32; 2048],
-    offsets1: &mut [f32; 2048],
-    held1: &mut [bool; 2048],
-    rates2: &mut [f32; 2048],
-    moments2: &mut [f32; 2048],
-    offsets2: &mut [f32; 2048],
-    held2: &mut [bool; 2048],
-    dt: f32,
-    rate1: f32,
-    moment1: f32,
-    rate2: f32,
-    moment2: f32,
-) -> TwoStepped
-    requires { (first.ticks < 16777216) × (second.ticks < 16777216) }
-    ensures { AnswersTwo (lents_over rates1 moments1 offsets1 held1 rates2 moments2 offsets2 held2) (λ l. two_ticked (axes elapsed1 elapsed2) (axes first second) l (two_call dt rate1 moment1 rate2 moment2)) result }
-{
-    let begun1 = identify::begin(
-        first, elapsed1, rates1, moments1, offsets1, held1, dt, rate1, moment1,
-    );
-    let begun2 = identify::begin(
-        second, elapsed2, rates2, moments2, offsets2, held2, dt, rate2, moment2,
-    );
-    if (begun1.now_s < first.duration_s) & (begun2.now_s < second.duration_s) {
-        return TwoStepped::Offsets(
-            begun1.offset,
-            begun2.offset,
-            TwoAxisProbe {
-                first: run_on(first, begun1),
-                second: run_on(second, begun2),
-            },
-        );
-    }
-    let readings1 = Readings {
-        window: begun1.window,
-        rates: rates1,
-        moments: moments1,
-        held: held1,
-    };
-    let readings2 = Readings {
-        window: begun2.window,
-        rates: rates2,
-        moments: moments2,
-        held: held2,
-    };
-    let due1 = closing::due_at(begun1.now_s, first.duration_s, readings1);
-    let due2 = closing::due_at(begun2.now_s, second.duration_s, readings2);
-    let next1 = end_tick(first, begun1, due1, closing::asks(due2), readings1);
-    let next2 = end_tick(second, begun2, due2, closing::asks(due1), readings2);
-    TwoStepped::Offsets(
-        begun1.offset,
-        begun2.offset,
-        TwoAxisProbe {
-            first: next1,
-            second: next2,
-        },
-    )
-}
-
 impl TwoAxisProbe {
     // A probe with nothing stored: the first axis starts high, the second low.
     pub fn fresh(config: IdentifyConfig) -> TwoAxisProbe
@@ -151,41 +114,82 @@ impl TwoAxisProbe {
         }
     }
 
-    // Advances both axes by dt seconds, with each axis's body rate at this tick and the moment commanded on the last one.
-    // It answers the offsets to add to the loops' setpoints; once the probe has ended there are none to add.
-    pub fn step(
-        self,
-        rates1: &mut [f32; 2048],
-        moments1: &mut [f32; 2048],
-        offsets1: &mut [f32; 2048],
-        held1: &mut [bool; 2048],
-        rates2: &mut [f32; 2048],
-        moments2: &mut [f32; 2048],
-        offsets2: &mut [f32; 2048],
-        held2: &mut [bool; 2048],
-        dt: f32,
-        rate1: f32,
-        moment1: f32,
-        rate2: f32,
-        moment2: f32,
-    ) -> TwoStepped
-        ensures { AnswersTwo (lents_over rates1 moments1 offsets1 held1 rates2 moments2 offsets2 held2) (λ l. two_stepped_by (probes_of self) l (two_call dt rate1 moment1 rate2 moment2)) result }
+    // A probe ready to run, where the configuration breaks no rule.
+    #[tactic(auto, unfolding(crate::specs::Stepped::two_opened_by, rules::specs::Numbers::numbered, rules::specs::Numbers::numbers), using(rules::proofs::Numbers::above_0))]
+    pub fn new(config: IdentifyConfig) -> Result<TwoAxisProbe, Rule>
+        ensures { numbers result ≡ two_opened_by (broken config) config }
     {
-        let first = self.first;
-        let second = self.second;
-        let number = either_number(first, second, dt);
-        if number != 0 {
-            return TwoStepped::Refused(number);
+        rules::validate(config)?;
+        Ok(TwoAxisProbe::fresh(config))
+    }
+
+    // A call that no rule turns back, of axes that have run for elapsed1 and elapsed2. Both samples are stored before either window is looked at, and both windows are looked at before either axis goes on.
+    // It answers both offsets.
+    #[tactic(auto, unfolding(crate::specs::Stepped::two_ticked))]
+    fn tick(
+        &mut self,
+        elapsed1: f32,
+        elapsed2: f32,
+        lent1: &mut LentArrays<'_>,
+        lent2: &mut LentArrays<'_>,
+        call: TwoCall,
+    ) -> (f32, f32)
+        requires first { self.old.first.ticks < 16777216 }
+        requires second { self.old.second.ticks < 16777216 }
+        ensures answer { Ok (Some result) ≡ (two_ticked (axes elapsed1 elapsed2) (probes_of self.old) (lents_of lent1.old lent2.old) (two_call_of call)).answer }
+        ensures first { self.new.first ≡ (two_ticked (axes elapsed1 elapsed2) (probes_of self.old) (lents_of lent1.old lent2.old) (two_call_of call)).first }
+        ensures second { self.new.second ≡ (two_ticked (axes elapsed1 elapsed2) (probes_of self.old) (lents_of lent1.old lent2.old) (two_call_of call)).second }
+        ensures lent1 { Leaves lent1.old lent1.new (stored_in elapsed1 self.old.first (arrays_in lent1.old) (call_of (record { dt = call.dt; rate = call.rate1; moment = call.moment1 }))) }
+        ensures lent2 { Leaves lent2.old lent2.new (stored_in elapsed2 self.old.second (arrays_in lent2.old) (call_of (record { dt = call.dt; rate = call.rate2; moment = call.moment2 }))) }
+    {
+        let begun1 = identify::begin(self.first, elapsed1, lent1, call.first());
+        let begun2 = identify::begin(self.second, elapsed2, lent2, call.second());
+        if (begun1.now_s < self.first.duration_s) & (begun2.now_s < self.second.duration_s) {
+            *self = TwoAxisProbe {
+                first: run_on(self.first, begun1),
+                second: run_on(self.second, begun2),
+            };
+            return (begun1.offset, begun2.offset);
         }
-        let Some(elapsed1) = first.status.clock() else {
-            return TwoStepped::Ended;
+        let readings1 = Readings {
+            window: begun1.window,
+            rates: lent1.rates,
+            moments: lent1.moments,
+            held: lent1.held,
         };
-        let Some(elapsed2) = second.status.clock() else {
-            return TwoStepped::Ended;
+        let readings2 = Readings {
+            window: begun2.window,
+            rates: lent2.rates,
+            moments: lent2.moments,
+            held: lent2.held,
         };
-        tick(
-            first, second, elapsed1, elapsed2, rates1, moments1, offsets1, held1, rates2, moments2,
-            offsets2, held2, dt, rate1, moment1, rate2, moment2,
-        )
+        let due1 = closing::due_at(begun1.now_s, self.first.duration_s, readings1);
+        let due2 = closing::due_at(begun2.now_s, self.second.duration_s, readings2);
+        *self = TwoAxisProbe {
+            first: end_tick(self.first, begun1, due1, closing::asks(due2), readings1),
+            second: end_tick(self.second, begun2, due2, closing::asks(due1), readings2),
+        };
+        (begun1.offset, begun2.offset)
+    }
+
+    // Advances both axes by one call. It answers the offsets to add to the loops' setpoints; once the probe has ended there are none to add.
+    #[tactic(auto, unfolding(crate::specs::Stepped::two_stepped_by, crate::specs::Stepped::two_answer_by, crate::specs::Stepped::two_ticked, rules::specs::Numbers::numbered, rules::specs::Numbers::numbers), using(rules::proofs::Numbers::above_0, crate::proofs::Stepping::few_first, crate::proofs::Stepping::few_second))]
+    pub fn step(
+        &mut self,
+        lent1: &mut LentArrays<'_>,
+        lent2: &mut LentArrays<'_>,
+        call: TwoCall,
+    ) -> Result<Option<(f32, f32)>, Rule>
+        ensures answer { numbers result ≡ (answer_of self.old lent1.old lent2.old (two_call_of call)).answer }
+        ensures left { LeavesTwo self.old self.new lent1.old lent1.new lent2.old lent2.new (answer_of self.old lent1.old lent2.old (two_call_of call)) }
+    {
+        validate_both(*self, call.dt)?;
+        let Some(elapsed1) = self.first.status.clock() else {
+            return Ok(None);
+        };
+        let Some(elapsed2) = self.second.status.clock() else {
+            return Ok(None);
+        };
+        Ok(Some(self.tick(elapsed1, elapsed2, lent1, lent2, call)))
     }
 }

@@ -1,16 +1,17 @@
 -- The bytes of a report of two axes: 77 of them, written one part behind another. A sum that fits its bits is what a reader finds in them.
 use Prim.Native.Nat.{ℕ, ◌+◌, ◌-◌, ◌*◌, ◌/◌, ◌%◌, ◌^◌, ◌≤◌, ◌<◌}
 use mathlib.Core.Path.{◌≡◌, ap, ◌∙◌}
-use mathlib.Core.List.{List, [], ◌∷◌, ◌++◌, append_assoc, append-nil}
+use mathlib.Core.List.{List, [], ◌∷◌, ◌++◌, append_assoc}
 use native.Mathlib.Nat.{div-one}
 use native.Mathlib.Omega.{arith}
-use borrow.Rule.Slice.PartMut.{mid_of, put_mid, mid_len, Post-is}
+use borrow.Rule.Slice.PartMut.{mid_of, put_mid, mid_len}
 use lib.Dec.{lit<}
-use lib.ListN.{length, get_or, take, drop, set, length-append}
-use lib.Seq.{sets-eq, drop-length, get_or-append-add}
+use lib.ListN.{length, get_or, drop, length-append}
+use lib.Seq.{get_or-append-add}
 use Rattle.wire.specs.Words.{bytes_of, word_at, written_at, written_within}
 use Rattle.wire.proofs.Bytes.{length_bytes, one_word, bytes_split}
-use Rattle.wire.proofs.Written.{within, length_written, front_written, word_within, written_next}
+use Rattle.std.specs.Int.{w64, to_be_bytes}
+use Rattle.wire.proofs.Written.{copied, whole_written, within, written_next}
 use Rattle.wire.proofs.Read.{word_read_before}
 use Rattle.report.specs.declared.Report.{Report}
 use Rattle.report.specs.Report.{packed, report_bytes}
@@ -39,37 +40,20 @@ module _ (r : Axis → Report) where
   unfolding packed sums_of
   lower = omega arith
 
--- a byte stored
-stored : (i n : ℕ) (l : List ℕ) → i + 1 ≤ length l → set l i (n % 256) ≡ written_at i (bytes_of 1 n) l
-unfolding written_at bytes_of
-stored i n l h = rw div-one (sets-eq (n % 256 ∷ []) l i h ∙ append_assoc (take i l) (n % 256 ∷ []) (drop (i + 1) l))
-
--- and right behind a word
-pub five_written : (i n : ℕ) (l : List ℕ) → i + 5 ≤ length l → set (written_at i (bytes_of 4 (n / 256 ^ 1)) l) (i + 4) (n % 256) ≡ written_at i (bytes_of 5 n) l
-five_written i n l h =
-    let word = bytes_of 4 (n / 256 ^ 1) in
-    let m = written_at i word l in
-    let four : length word ≡ 4 = length_bytes 4 (n / 256 ^ 1) in
-    let long : length m ≡ length l = length_written i word l (omega arith) in
-    stored (i + 4) n m (omega arith) ∙ rw (bytes_split 4 1 n) (rw four at (written_next i word (bytes_of 1 n) l (omega arith)))
-
--- the word and the byte of the sums, as the code has them
-pub sums_written : (r : Axis → Report) (l : List ℕ) → 77 ≤ length l
-    → set (written_within 72 (bytes_of 4 (ticks r * 0x40 + rows r / 0x80)) l) 76 (rows r % 0x80 * 2) ≡ written_at 72 (bytes_of 5 (packed 0 (sums_of r))) l
-sums_written r l h = rw (word_within 72 (ticks r * 0x40 + rows r / 0x80) l (omega arith), ← upper r, ← lower r) (five_written 72 (packed 0 (sums_of r)) l h)
+-- the low five of a number's eight bytes
+pub five_bytes : (n : ℕ) → drop 3 (to_be_bytes w64 n) ≡ bytes_of 5 n
+unfolding bytes_of
+five_bytes n = rw div-one
 
 -- ---- parts
 -- bytes written to a part that is as long as they are stand in its place
 pub in_part : (at n : ℕ) (bytes l : List ℕ) → length bytes ≡ n → at + n ≤ length l
     → put_mid at ((at + n) - at) l (written_within 0 bytes (mid_of at ((at + n) - at) l)) ≡ written_at at bytes l
-unfolding written_at
 in_part at n bytes l e h =
-    let m = mid_of at ((at + n) - at) l in
+    let k = (at + n) - at in
+    let m = mid_of at k l in
     let long : length m ≡ n = mid_len at (at + n) l h ∙ omega arith in
-    let same : length bytes ≡ length m = omega arith in
-    let none : drop (length bytes) m ≡ [] = rw same (drop-length m) in
-    let all : written_within 0 bytes m ≡ bytes = within 0 bytes m (omega arith) ∙ front_written bytes m ∙ ap (λ (rest : List ℕ). bytes ++ rest) none ∙ append-nil bytes in
-    rw (all, Post-is at (at + n) l (omega arith), e)
+    rw (within 0 bytes m (omega arith), whole_written bytes m (omega arith)) (copied at k bytes l (omega arith))
 
 -- two reports and the sums, written one behind another
 pub two_written : (r : Axis → Report) (l : List ℕ) → 77 ≤ length l

@@ -14,6 +14,9 @@ use Rattle.byte_config.specs.ByteConfig.{config_of}
 use Rattle.byte_run.specs.ByteRun.{onto}
 use Rattle.two_axis.specs.Axes.{Axis, TwoCall}
 use Rattle.two_axis.specs.Accounts.{opened_two, account_two}
+use Rattle.std.specs.Prelude.{Ok, Err}
+use Rattle.two_axis_probe.specs.declared.TwoAxisProbe.{TwoAxisProbe}
+use Rattle.two_axis_probe.specs.Stepped.{fresh_two_axis, two_opened_by}
 use Rattle.two_axis_report.specs.TwoReport.{report_two, reports_of, report_at, TellsSums}
 use Rattle.two_axis_report.proofs.Reported.{delays_told, models_told, accounts_told}
 use Rattle.two_axis_run.specs.TwoAxisRun.{calls_of, words_of, written, sized_two, ran, run_if, two_axis_run, TellsDelays, TellsModels, TellsSumsOf}
@@ -26,10 +29,15 @@ Told c calls output =
     × TellsSums output (reports_of (account_two (opened_two c) calls))
 
 module _ (c : IdentifyConfig) (calls : List TwoCall) (output : List ℕ) where
-  turned_away : (n : ℕ) → (n ≡ 0 → ⊥) → ran n c calls output ≡ record { result = n; output = output }
-  unfolding ran
-  turned_away zero h = absurd (h refl)
-  turned_away (suc n) h = refl
+  turned_away : (b n : ℕ) → two_opened_by b c ≡ Err n → ran b c calls output ≡ record { result = n; output = output }
+  unfolding two_opened_by ran
+  turned_away zero n h = absurd (let z : ◌≡◌ {A = ℕ} 0 1 = cc in omega arith)
+  turned_away (suc b) n h = let same : suc b ≡ n = cc in rw same
+
+  started : (b : ℕ) (p : TwoAxisProbe) → two_opened_by b c ≡ Ok p → (p ≡ fresh_two_axis c) × (ran b c calls output ≡ record { result = 0; output = onto (written c calls) output })
+  unfolding two_opened_by ran
+  started zero p h = (cc, refl)
+  started (suc b) p h = absurd (let z : ◌≡◌ {A = ℕ} 0 1 = cc in omega arith)
 
   started_tells : (n : ℕ) → (ran n c calls output).result ≡ 0 → Told c calls (ran n c calls output).output
   unfolding ran onto written
@@ -45,14 +53,15 @@ module _ (config calls output : List ℕ) where
   unfolding two_axis_run run_if
   not_sized h = rw h
 
-  pub run_refused : (n : ℕ) → sized_two config calls output ≡ true → n ≡ broken (config_of config) → (n ≡ 0 → ⊥) → two_axis_run config calls output ≡ record { result = n; output = output }
+  pub run_refused : (n : ℕ) → sized_two config calls output ≡ true → two_opened_by (broken (config_of config)) (config_of config) ≡ Err n
+      → two_axis_run config calls output ≡ record { result = n; output = output }
   unfolding two_axis_run run_if
-  run_refused n h e k = rw (h, ← e) (turned_away (config_of config) (calls_of calls) output n k)
+  run_refused n h k = rw h (turned_away (config_of config) (calls_of calls) output (broken (config_of config)) n k)
 
-  pub run_started : sized_two config calls output ≡ true → broken (config_of config) ≡ 0
-      → two_axis_run config calls output ≡ record { result = 0; output = onto (written (config_of config) (calls_of calls)) output }
-  unfolding two_axis_run run_if ran
-  run_started h e = rw (h, e)
+  pub run_started : (p : TwoAxisProbe) → sized_two config calls output ≡ true → two_opened_by (broken (config_of config)) (config_of config) ≡ Ok p
+      → (p ≡ fresh_two_axis (config_of config)) × (two_axis_run config calls output ≡ record { result = 0; output = onto (written (config_of config) (calls_of calls)) output })
+  unfolding two_axis_run run_if
+  run_started p h k = rw h (started (config_of config) (calls_of calls) output (broken (config_of config)) p k)
 
   sized_tells : (b : Bool) → (run_if b config calls output).result ≡ 0 → Told (config_of config) (calls_of calls) (run_if b config calls output).output
   unfolding run_if

@@ -15,7 +15,7 @@ use Rattle.byte_run.specs.ByteRun.{reply_word, onto}
 use Rattle.two_axis.specs.Axes.{Axis, first, second, axes, TwoCall}
 use Rattle.two_axis.specs.Probes.{Probes, fresh_two, step_two, moved, after_two, replies_two}
 use Rattle.two_axis.specs.Accounts.{opened_two, account_two}
-use Rattle.two_axis_probe.specs.Stepped.{Structs, Lents, seen_two, two_stepped_by, leaves_two}
+use Rattle.two_axis_probe.specs.Stepped.{Structs, Lents, seen_two, probes_left, lents_left, two_stepped_by}
 use Rattle.two_axis_probe.specs.Held.{Stands, HoldsTwo}
 use Rattle.two_axis_probe.proofs.Flying.{replies_on, goes_on}
 use Rattle.two_axis_report.specs.TwoReport.{report_two, reports_of}
@@ -52,23 +52,23 @@ module _ (c : IdentifyConfig) (bytes : List ℕ) where
 
   -- one call more, of a probe p and arrays l that stand where the first k left them
   module _ (k : ℕ) {p : Structs} {l : Lents} (h : Stands c (calls_to bytes k) p l) where
-    said : words (suc k) ≡ words k ++ answer_words (two_stepped_by p l (call_at bytes (20 * k))).result
+    said : words (suc k) ≡ words k ++ answer_words (two_stepped_by p l (call_at bytes (20 * k))).answer
     unfolding calls_to
     said = let x = call_at bytes (20 * k) in words_more (fresh_two c) (calls_to bytes k) x ∙ rw (replies_on h x first, replies_on h x second)
 
     pub words_in : (out : List ℕ) → 77 + 8 * k ≤ length out
-        → written_at (77 + 8 * k) (word_bytes (answer_words (two_stepped_by p l (call_at bytes (20 * k))).result)) (written_at 77 (word_bytes (words k)) out)
+        → written_at (77 + 8 * k) (word_bytes (answer_words (two_stepped_by p l (call_at bytes (20 * k))).answer)) (written_at 77 (word_bytes (words k)) out)
         ≡ written_at 77 (word_bytes (words (suc k))) out
     words_in out f =
         let ws = words k in
-        let more = word_bytes (answer_words (two_stepped_by p l (call_at bytes (20 * k))).result) in
+        let more = word_bytes (answer_words (two_stepped_by p l (call_at bytes (20 * k))).answer) in
         let long : length (word_bytes ws) ≡ 8 * k = length_words ws ∙ (omega (arith, length_word k)) in
         rw (said, words_append) (rw long at (written_next 77 (word_bytes ws) more out (omega arith)))
 
-    pub stands_on : {q : Structs} {m : Lents} → q ≡ leaves_two (two_stepped_by p l (call_at bytes (20 * k))).result p → ((x : Axis) → m x ≡ (two_stepped_by p l (call_at bytes (20 * k))).lent x)
+    pub stands_on : {q : Structs} {m : Lents} → q ≡ probes_left (two_stepped_by p l (call_at bytes (20 * k))) → m ≡ lents_left (two_stepped_by p l (call_at bytes (20 * k)))
         → Stands c (calls_to bytes (suc k)) q m
     unfolding calls_to
-    stands_on e f = subst₂ (λ (q : Structs) (m : Lents). Stands c (calls_to bytes (suc k)) q m) (sym e) (sym (fun_ext f)) (goes_on h (call_at bytes (20 * k)))
+    stands_on e f = subst₂ (λ (q : Structs) (m : Lents). Stands c (calls_to bytes (suc k)) q m) (sym e) (sym f) (goes_on h (call_at bytes (20 * k)))
 
 -- whole arrays of each axis
 pub wholes : {l m : Lent} → Whole l → Whole m → (x : Axis) → Whole (axes l m x)

@@ -10,7 +10,8 @@ use Rattle.wire.specs.Words.{bytes_of, word_bytes, written_at, written_within}
 use Rattle.wire.proofs.Bytes.{length_words, one_word}
 use Rattle.wire.proofs.Written.{within, length_within, word_within, word_next}
 use Rattle.byte_run.proofs.Reading.{part_float}
-use Rattle.two_axis_probe.specs.declared.TwoStepped.{TwoStepped}
+use Rattle.std.specs.Prelude.{Option, Result}
+use lib.Ieee.{Float}
 use Rattle.two_axis_report.proofs.Bytes.{in_part}
 use Rattle.two_axis_calls.specs.Calls.{call_at, answer_words, words_within}
 
@@ -33,6 +34,6 @@ words_in_part_of at a b l h = in_part at 8 (word_bytes (a ∷ b ∷ [])) l (leng
 part_long : (at : ℕ) (l : List ℕ) → at + 8 ≤ length l → 8 ≤ length (mid_of at ((at + 8) - at) l)
 part_long at l h = omega (arith, mid_len at (at + 8) l h)
 
-pub words_in_part : (at : ℕ) (s : TwoStepped) (l : List ℕ) → at + 8 ≤ length l
+pub words_in_part : (at : ℕ) (s : Result (Option (Float × Float)) ℕ) (l : List ℕ) → at + 8 ≤ length l
     → put_mid at ((at + 8) - at) l (words_within s (mid_of at ((at + 8) - at) l)) ≡ written_at at (word_bytes (answer_words s)) l
 words_in_part at s l h = rw (words_written _ _ (mid_of at ((at + 8) - at) l) (part_long at l h)) (words_in_part_of at _ _ l h)

@@ -1,6 +1,5 @@
 -- The byte run of two axes: 02, request five, in the form of 01's "The byte run". "All fields 32-bit, big-endian."
 use Rattle.std.specs.Prelude.{ℕ, zero, suc, ◌+◌, ◌*◌, ◌/◌, ◌%◌, ◌≡◌, Bool, true, false, ◌&&◌, List, [], ◌∷◌, ◌++◌, leb, eqb, length}
-use denote.Triple.Both.{Both}
 use Rattle.account.specs.declared.IdentifyConfig.{IdentifyConfig}
 use Rattle.account.specs.Rules.{broken}
 use Rattle.account.specs.Probe.{Reply}
@@ -13,7 +12,8 @@ use Rattle.two_axis.specs.Axes.{Axis, first, second, TwoCall}
 use Rattle.two_axis.specs.Probes.{fresh_two, replies_two}
 use Rattle.two_axis.specs.Accounts.{Accounts, opened_two, account_two}
 use Rattle.two_axis_probe.specs.declared.TwoAxisProbe.{TwoAxisProbe}
-use Rattle.two_axis_probe.specs.Stepped.{Lents, probes_of}
+use Rattle.window.specs.declared.LentArrays.{LentArrays}
+use Rattle.two_axis_probe.specs.Stepped.{probes_of, lents_of}
 use Rattle.two_axis_probe.specs.Held.{HoldsTwo}
 use Rattle.two_axis_report.specs.TwoReport.{report_two, reports_of, report_at, TellsSums}
 use Rattle.two_axis_calls.specs.Calls.{call_at}
@@ -59,8 +59,8 @@ unfoldable pub two_axis_run : List ℕ → List ℕ → List ℕ → Ran
 two_axis_run config calls output = run_if (sized_two config calls output) config calls output
 
 -- after the calls in these bytes the probe and its arrays hold the two accounts
-abbrev pub HoldsAfter : IdentifyConfig → List ℕ → TwoAxisProbe → Both Lents Lents → Type 0
-HoldsAfter c bytes p l = HoldsTwo c (calls_of bytes) (probes_of p) l.exit (account_two (opened_two c) (calls_of bytes))
+abbrev pub HoldsAfter : IdentifyConfig → List ℕ → TwoAxisProbe → (lent1 lent2 : LentArrays) → Type 0
+HoldsAfter c bytes p lent1 lent2 = HoldsTwo c (calls_of bytes) (probes_of p) (lents_of lent1 lent2) (account_two (opened_two c) (calls_of bytes))
 
 -- the accounts of a run
 abbrev pub accounts_of : (config calls : List ℕ) → Accounts

@@ -2,7 +2,7 @@
 // Words are big-endian. An expected NaN is 7FC00000, and as an f64 7FF80000 00000000.
 #![tactic(auto)]
 
-ghost use Rattle.std.specs.Prelude.{◌≡◌, ◌+◌, ◌-◌, ◌≤◌, length, take, drop, ◌==◌, from_bits, to_bits, Some};
+ghost use Rattle.std.specs.Prelude.{◌≡◌, ◌+◌, ◌-◌, ◌≤◌, length, take, drop, min, ◌==◌, from_bits, to_bits, Some};
 ghost use Rattle.std.specs.Float.{binary32, binary64};
 ghost use Rattle.std.specs.Fn.{FnReturnsAt};
 ghost use Rattle.wire.specs.Words.{word_at};
@@ -44,6 +44,13 @@ pub fn double_is_at(x: f64, s: &[u8], at: usize) -> bool
     ensures { at + 8 ≤ length s.now → result ≡ (to_bits binary64 x == double_bits_at s.now at) }
 {
     std::num::f64_to_bits_with_nan(x) == double_bits_at(s, at)
+}
+
+// The count at a place, no more than the most that its reader has room for.
+pub fn count_at(s: &[u8], at: usize, most: u32) -> usize
+    ensures { result ≡ min (word_at s.now at) most }
+{
+    wire::read_word(s, at).min(most) as usize
 }
 
 // ---- answers

@@ -20,6 +20,7 @@ pub struct WholeRoot {
 }
 
 // One round gives the root one digit more.
+#[tactic(auto, using(crate::proofs::Rounds::digit_zero, crate::proofs::Rounds::digit_one))]
 fn one_round(s: PartialRoot) -> PartialRoot
     requires { (s.root < 2 ^ 56) × (s.left < 2 * s.root + 2 ^ 32) }
     ensures { result ≡ one_round s }

@@ -7,7 +7,7 @@ ghost use Rattle.std.specs.Prelude.{◌<◌, ◌≤◌};
 
 use counting::Counts;
 use std::io;
-use vectors::{is_at, replay};
+use vectors::{count_at, is_at, replay};
 use window::{LentArrays, Window};
 use wire::{read_float, read_word};
 
@@ -90,16 +90,9 @@ impl Recording {
     }
 }
 
-// The ticks that a recording begins with, at most 4,096.
-fn tick_count(s: &[u8]) -> usize
-    ensures { result ≤ 4096 }
-{
-    read_word(s, 0).min(4096) as usize
-}
-
 // w ticks; each f dt, f rate, f moment, f offset; the totals; the stored samples.
 fn recording_agrees(s: &[u8]) -> bool {
-    let ticks = tick_count(s);
+    let ticks = count_at(s, 0, 4096);
     let mut recording = Recording::new();
     for k in 0..ticks {
         let at = 4 + k * 16;
@@ -116,18 +109,16 @@ fn recording_agrees(s: &[u8]) -> bool {
 
 // The bytes of a recording: its ticks, five words, its stored samples.
 fn recording_size(s: &[u8]) -> usize {
-    let end = 4 + tick_count(s) * 16;
-    end + 20 + (read_word(s, end).min(2048) as usize) * 16
+    let end = 4 + count_at(s, 0, 4096) * 16;
+    end + 20 + count_at(s, end, 2048) * 16
 }
 
 // ---- patterns of bad readings
 
 // Whether reading k is bad, where a pattern follows `before` good readings.
 fn is_bad(pattern: u32, before: u32, k: u32) -> bool {
-    match k.checked_sub(before) {
-        Some(n) => n < 32 && (pattern >> n) % 2 == 1,
-        None => false,
-    }
+    k.checked_sub(before)
+        .is_some_and(|n| n < 32 && (pattern >> n) % 2 == 1)
 }
 
 // NaN for a bad reading.

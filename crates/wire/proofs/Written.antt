@@ -1,23 +1,21 @@
 -- Bytes written over a list: how long it stays, when they fit, and how two writes beside each other are one.
-use Prim.Native.Nat.{ℕ, ◌+◌, ◌-◌, ◌*◌, ◌≤◌, ◌<◌}
-use mathlib.Core.Path.{◌≡◌, refl, sym, ◌∙◌}
+use Prim.Native.Nat.{ℕ, suc, min, ◌+◌, ◌-◌, ◌*◌, ◌≤◌, ◌<◌}
+use mathlib.Core.Path.{◌≡◌, sym, ◌∙◌}
 use mathlib.Core.Logic.{⊎_elim}
-use mathlib.Core.List.{List, [], ◌∷◌, ◌++◌, append_assoc, map, map-append}
+use mathlib.Core.List.{List, [], ◌∷◌, ◌++◌, append_assoc, append-nil}
 use native.Mathlib.Nat.{zero-add, add-zero, add_assoc}
-use native.Mathlib.Numerals.{add-one}
 use native.Mathlib.Omega.{arith}
 use borrow.Author.Tests.{le-leb, lt-leb}
-use lib.Ieee.{Float}
 use borrow.Rule.Slice.PartMut.{put_mid}
 use Rattle.std.specs.Int.{w32, to_be_bytes}
-use lib.ListN.{length, get_or, take, drop, length-map, length-append, length-take, length-drop, take-append-drop}
-use lib.Seq.{take-suc, take_at, drop_at, take-append-le, drop-append-add, drop-drop, take-take}
-use Rattle.float.proofs.Digits.{lt_or_ge}
-use Rattle.wire.specs.Words.{bytes_of, word_bytes, word_of, written_at, written_within}
+use lib.ListN.{length, take, drop, length-append, length-take, length-drop, take-append-drop}
+use lib.Seq.{take_at, drop_at, take-append-le, drop-append-add, drop-drop, drop-length, take-take}
+use Rattle.std.proofs.lemmas.Bool.{cases_lt}
+use Rattle.wire.specs.Words.{bytes_of, word_bytes, written_at, written_within, words_within}
 use Rattle.wire.proofs.Bytes.{four_bytes, length_bytes, length_words, one_word, words_append}
 
 -- elements copied over a part that is as long
-copied : (i k : ℕ) (xs l : List ℕ) → length xs ≡ k → put_mid i k l xs ≡ written_at i xs l
+pub copied : (i k : ℕ) (xs l : List ℕ) → length xs ≡ k → put_mid i k l xs ≡ written_at i xs l
 unfolding written_at
 copied i k xs l e = rw (drop-drop, e)
 
@@ -42,7 +40,7 @@ module _ (i : ℕ) (xs l : List ℕ) where
   past h = rw (lt-leb (i + length xs) (length l) h)
 
   pub length_within : length (written_within i xs l) ≡ length l
-  length_within = ⊎_elim (λ (h : length l < i + length xs). rw (past h)) (λ (h : i + length xs ≤ length l). rw (within h) (length_written i xs l h)) (lt_or_ge (length l) (i + length xs))
+  length_within = ⊎_elim (λ (h : length l < i + length xs). rw (past h)) (λ (h : i + length xs ≤ length l). rw (within h) (length_written i xs l h)) (cases_lt (length l) (i + length xs))
 
 -- the four bytes of a word
 pub word_within : (i w : ℕ) (l : List ℕ) → i + 4 ≤ length l → written_within i (bytes_of 4 w) l ≡ written_at i (bytes_of 4 w) l
@@ -59,6 +57,10 @@ nothing_written i l = rw (add-zero, take-append-drop)
 pub front_written : (xs l : List ℕ) → written_at 0 xs l ≡ xs ++ drop (length xs) l
 unfolding written_at
 front_written xs l = rw zero-add
+
+-- over a list that is as long: these bytes alone
+pub whole_written : (xs l : List ℕ) → length l ≡ length xs → written_at 0 xs l ≡ xs
+whole_written xs l e = rw (front_written, ← e, drop-length, append-nil)
 
 -- what stands past the end of the first of two lists
 drop_past : (p q : List ℕ) (n m : ℕ) → length p ≡ n → drop (n + m) (p ++ q) ≡ drop m q
@@ -91,17 +93,25 @@ pub word_next : (i k : ℕ) (ws : List ℕ) (w : ℕ) (l : List ℕ) → length 
 word_next i k ws w l e h =
     rw (words_append, one_word, ← e, ← length_words ws) (written_next i (word_bytes ws) (bytes_of 4 w) l (rw (length_words, e) h))
 
--- three words, written one after another
-pub three_written : (a b c : ℕ) (l : List ℕ) → 12 ≤ length l
-    → written_within 8 (bytes_of 4 c) (written_within 4 (bytes_of 4 b) (written_within 0 (bytes_of 4 a) l)) ≡ written_at 0 (word_bytes (a ∷ b ∷ c ∷ [])) l
-three_written a b c l h =
-    let one = written_within 0 (bytes_of 4 a) l in
-    let two = written_within 4 (bytes_of 4 b) one in
-    let long : length one ≡ length l = length_within 0 (bytes_of 4 a) l in
-    let longer : length two ≡ length one = length_within 4 (bytes_of 4 b) one in
-    rw (word_within 8 c two (omega arith), word_within 4 b one (omega arith), word_within 0 a l (omega arith), ← one_word a, word_next 0 1 (a ∷ []) b l refl (omega arith)) (word_next 0 2 (a ∷ b ∷ []) c l refl (omega arith))
+-- one more word behind those of a list, where each is written where it fits
+pub words_next : (i : ℕ) (ws : List ℕ) (w : ℕ) (l : List ℕ) → words_within i (ws ++ (w ∷ [])) l ≡ written_within (i + 4 * length ws) (bytes_of 4 w) (words_within i ws l)
+unfolding words_within
+words_next i [] w l = rw add-zero
+words_next i (v ∷ ws) w l =
+    let e : i + 4 * suc (length ws) ≡ i + 4 + 4 * length ws = omega arith in
+    rw e (words_next (i + 4) ws w (written_within i (bytes_of 4 v) l))
 
--- one more float of a list behind those before it
-pub float_next : (i k : ℕ) (xs : List Float) (d : Float) (l : List ℕ) → k < length xs → i + 4 * k ≤ length l → written_at (i + 4 * k) (bytes_of 4 (word_of (get_or xs k d))) (written_at i (word_bytes (map word_of (take k xs))) l) ≡ written_at i (word_bytes (map word_of (take (k + 1) xs))) l
-float_next i k xs d l h g =
-    rw (add-one, take-suc xs k d, map-append) (word_next i k (map word_of (take k xs)) (word_of (get_or xs k d)) l (simp (length-map, length-take) (omega arith)) g)
+-- a place past the largest number is past the end of every list, and so is the largest
+pub saturated : (p n w : ℕ) (l : List ℕ) → length l < n → written_within (min p n) (bytes_of 4 w) l ≡ written_within p (bytes_of 4 w) l
+saturated p n w l h =
+    ⊎_elim (λ (e : p < n). let m : min p n ≡ p = omega arith in rw m) (λ (e : n ≤ p). let m : min p n ≡ n = omega arith in rw (m, word_past n w l (omega arith), word_past p w l (omega arith))) (cases_lt p n)
+
+-- words that fit are written as one
+pub words_fit : (i : ℕ) (ws l : List ℕ) → i + 4 * length ws ≤ length l → words_within i ws l ≡ written_at i (word_bytes ws) l
+unfolding words_within word_bytes
+words_fit i [] l h = sym (nothing_written i l)
+words_fit i (w ∷ ws) l h =
+    let one = written_within i (bytes_of 4 w) l in
+    let long : length one ≡ length l = length_within i (bytes_of 4 w) l in
+    words_fit (i + 4) ws one (omega arith)
+    ∙ rw (word_within i w l (omega arith)) (rw (length_bytes 4 w) at (written_next i (bytes_of 4 w) (word_bytes ws) l (rw length_bytes (omega arith))))

@@ -32,6 +32,11 @@ written_at i bytes l = take i l ++ (bytes ++ drop (i + length bytes) l)
 unfoldable pub written_within : ℕ → List ℕ → List ℕ → List ℕ
 written_within i bytes l = cond (leb (i + length bytes) (length l)) (written_at i bytes l) l
 
+-- words one after another from byte i on, each where it fits
+unfoldable pub words_within : ℕ → List ℕ → List ℕ → List ℕ
+words_within i [] l = l
+words_within i (w ∷ ws) l = words_within (i + 4) ws (written_within i (bytes_of 4 w) l)
+
 -- what a function over bytes answers, and its output as it leaves it
 pub record Ran : Type 0 where
   pub result : ℕ

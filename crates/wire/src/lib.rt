@@ -2,20 +2,18 @@
 // four bytes that do not fit are not written.
 #![tactic(auto)]
 
-ghost use Rattle.std.specs.Prelude.{◌≡◌, ◌+◌, get_or};
-ghost use Rattle.wire.specs.Words.{bytes_of, word_of, word_at, float_at, written_within};
+ghost use Rattle.std.specs.Prelude.{◌≡◌, ℕ, ◌+◌, ◌*◌, ◌≤◌, map, length, get_or};
+ghost use Rattle.wire.specs.Words.{bytes_of, word_bytes, word_of, word_at, float_at, written_at, written_within, words_within};
 
 // The byte `k` places after `at`; 0 past the end.
 fn byte(bytes: &[u8], at: usize, k: usize) -> u8
     ensures { result ≡ get_or bytes.now (at + k) 0 }
 {
-    if k < bytes.len().saturating_sub(at) {
-        return bytes[at + k];
-    }
-    0
+    bytes.get(at.saturating_add(k)).copied().unwrap_or(0)
 }
 
 // The word at byte `at` of a slice that ends before the word does.
+#[tactic(auto, using(crate::proofs::Bytes::four_joined), unfolding(crate::specs::Words::word_at))]
 fn torn_word(bytes: &[u8], at: usize) -> u32
     ensures { result ≡ word_at bytes.now at }
 {
@@ -28,6 +26,7 @@ fn torn_word(bytes: &[u8], at: usize) -> u32
 }
 
 // The word at byte `at`; a byte past the end counts as 0. The first test does not depend on the place: a loop makes it once.
+#[tactic(auto, using(crate::proofs::Bytes::four_joined), unfolding(crate::specs::Words::word_at))]
 pub fn read_word(bytes: &[u8], at: usize) -> u32
     ensures { result ≡ word_at bytes.now at }
 {
@@ -38,6 +37,7 @@ pub fn read_word(bytes: &[u8], at: usize) -> u32
 }
 
 // The float at byte `at`; every NaN pattern gives NaN.
+#[tactic(auto, unfolding(crate::specs::Words::float_at))]
 pub fn read_float(bytes: &[u8], at: usize) -> f32
     ensures { result ≡ float_at bytes.now at }
 {
@@ -45,6 +45,7 @@ pub fn read_float(bytes: &[u8], at: usize) -> f32
 }
 
 // The word's bytes from byte `at` on; every other byte stays, and all of them where the four do not fit.
+#[tactic(auto, using(crate::proofs::Written::word_copied, crate::proofs::Written::word_within, crate::proofs::Written::word_past))]
 pub fn write_word(out: &mut [u8], at: usize, word: u32)
     ensures { out.new ≡ written_within at (bytes_of 4 word) out.old }
 {
@@ -59,4 +60,39 @@ pub fn write_float(out: &mut [u8], at: usize, x: f32)
     ensures { out.new ≡ written_within at (bytes_of 4 (word_of x)) out.old }
 {
     write_word(out, at, float::to_word(x));
+}
+
+// What is written as a word.
+pub trait Word: Copy + Drop {
+    ghost word: { Self → ℕ };
+
+    fn word(self) -> u32
+        ensures { result ≡ word self };
+}
+
+impl Word for u32 {
+    ghost word = { λ w. w };
+
+    fn word(self) -> u32 {
+        self
+    }
+}
+
+impl Word for f32 {
+    ghost word = { λ x. word_of x };
+
+    fn word(self) -> u32 {
+        float::to_word(self)
+    }
+}
+
+// Words or floats from byte `at` on, one word after another, each where it fits.
+#[tactic(auto, unfolding(crate::specs::Words::words_within))]
+pub fn write_words<W: Word>(out: &mut [u8], at: usize, values: &[W])
+    ensures each { out.new ≡ words_within at (map W.word values.now) out.old }
+    ensures all { at + 4 * length values.now ≤ length out.old → out.new ≡ written_at at (word_bytes (map W.word values.now)) out.old }
+{
+    for (k, value) in values.iter().enumerate() {
+        write_word(out, at.saturating_add(k.saturating_mul(4)), value.word());
+    }
 }

@@ -2,14 +2,16 @@
 use Prim.Native.Nat.{◌≤◌}
 use mathlib.Core.Path.{◌≡◌}
 use Rattle.wire.specs.Words.{word_bytes, written_at}
-use Rattle.window.specs.Lent.{lent, Whole}
-use Rattle.identify.specs.Seen.{seen}
+use Rattle.window.specs.Lent.{arrays_in, Whole}
+use Rattle.identify.specs.Seen.{SameArrays, seen}
 use Rattle.byte_run.proofs.Runs.{words, probe_at}
 use Rattle.byte_run.proofs.run_calls.Given as goal
 
 abbrev pub invariant-loop-k : goal.invariant-loop-k
 invariant-loop-k l =
+    let start = seen l.initial.probe (arrays_in l.initial.lent) in
     (l.k ≤ l.n)
-    × Whole (lent l.rates l.moments l.offsets l.held)
-    × (seen l.p (lent l.rates l.moments l.offsets l.held) ≡ probe_at (seen l.initial.p (lent l.initial.rates l.initial.moments l.initial.offsets l.initial.held)) l.calls l.k)
-    × (l.output ≡ written_at 36 (word_bytes (words (seen l.initial.p (lent l.initial.rates l.initial.moments l.initial.offsets l.initial.held)) l.calls l.k)) l.initial.output)
+    × Whole (arrays_in l.lent)
+    × SameArrays l.initial.lent l.lent
+    × (seen l.probe (arrays_in l.lent) ≡ probe_at start l.calls l.k)
+    × (l.output ≡ written_at 36 (word_bytes (words start l.calls l.k)) l.initial.output)

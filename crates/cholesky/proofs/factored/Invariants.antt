@@ -1,11 +1,10 @@
--- `cholesky::factored` meets its contract. The loop's invariant: L is filled below entry n.
-use Prim.Native.Nat.{◌≤◌, ◌/◌, ◌%◌}
+-- `cholesky::factored` meets its contract. The loop's invariant: the columns of L before j are made.
 use mathlib.Core.Path.{◌≡◌}
 use lib.ListN.{replicate}
 use Rattle.float.specs.Values.{zero32}
 use Rattle.float.specs.Series.{fill}
-use Rattle.cholesky.specs.Cholesky.{factor_entry}
+use Rattle.cholesky.specs.Cholesky.{factor_column}
 use Rattle.cholesky.proofs.factored.Given as goal
 
-abbrev pub invariant-loop-n : goal.invariant-loop-n
-invariant-loop-n l = (l.n ≤ 36) × (l.l ≡ fill (λ n m. factor_entry l.a (n % 6) (n / 6) m) (replicate 36 zero32) l.n)
+abbrev pub invariant-loop-j : goal.invariant-loop-j
+invariant-loop-j l = l.l ≡ fill (factor_column l.a) (replicate 6 (replicate 6 zero32)) l.j

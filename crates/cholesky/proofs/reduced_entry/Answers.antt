@@ -1,18 +1,15 @@
-use mathlib.Core.Path.{◌≡◌, refl}
-use native.Mathlib.Omega.{arith}
-use native.Mathlib.Numerals.{add-one}
-use Rattle.cholesky.specs.Cholesky.{reduced}
+-- The fold over the columns before j is the definition's recursion.
+use Rattle.std.proofs.Common.{rules, tests, List, take, ◌∙◌, arith}
+use Rattle.std.proofs.lemmas.Iterator.{YieldsList-from_slice}
+use Rattle.std.proofs.lemmas.Iterator.Consumers.{fold_from_yields_List}
+use lib.Ieee.{Float, binary32, add, mul, neg}
+use Rattle.float.specs.Series.{at}
+use Rattle.cholesky.proofs.Folds.{reduced_is}
 use Rattle.cholesky.proofs.reduced_entry.Goals as goal
 
-pub loop-k-init : goal.loop-k-init
-unfolding reduced
-loop-k-init c = (omega arith, refl)
-
-pub loop-k-preserved : goal.loop-k-preserved
-unfolding reduced
-loop-k-preserved c =
-    let l = c.loop-k in
-    (omega arith, rw (add-one l.k, ← l.invariant.1, ← c.entry.ensures, ← c.entry-in-loop-k.ensures))
-
 pub returns : goal.returns
-returns c = let e : c.loop-k.k ≡ c.args.j = omega arith in rw e at c.loop-k.invariant.1
+returns c =
+    let l = c.args.l.now in
+    fold_from_yields_List _ (λ (e : Float) (k : List Float). add binary32 (mul binary32 (neg (at k c.args.j)) (at k c.args.i)) e) _ _
+    c.fold.ensures.ran (YieldsList-from_slice (take c.args.j l) (cc)) (λ a x b q k. search (rules, tests))
+    ∙ reduced_is l _ _ _ _ (omega (arith, c.told-l))

@@ -5,4 +5,4 @@ use Rattle.grid.specs.Steps.{against}
 use Rattle.grid.proofs.keep_each.Given as goal
 
 abbrev pub invariant-loop-s : goal.invariant-loop-s
-invariant-loop-s l = l.kept ≡ fill (against l.bracket.pole l.bracket.low l.bracket.high l.fits) l.initial.kept l.s
+invariant-loop-s l = l.kept ≡ fill (against l.bracket l.fits) l.initial.kept l.s

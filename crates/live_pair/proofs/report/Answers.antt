@@ -11,7 +11,7 @@ use Rattle.probe_report.specs.ProbeReport.{of_probe}
 use Rattle.probe_words.specs.Layout.{Scalars, scalars, probe_in}
 use Rattle.marks.specs.Marks.{marks_by}
 use Rattle.two_axis.specs.Axes.{Axis, first, second, axes}
-use Rattle.two_axis_probe.proofs.Ticking.{by_axis}
+use Rattle.two_axis_probe.proofs.Flying.{by_axis}
 use Rattle.two_axis_report.specs.TwoReport.{report_two}
 use Rattle.live_pair.proofs.Flying.{reports}
 use Rattle.live_pair.proofs.report.Goals as goal

@@ -1,38 +1,41 @@
 -- The options are told first, and then what the configuration opens.
-use Rattle.live_probe.proofs.Opening.{unknown, turned_away, opens}
 use mathlib.Core.Path.{◌≡◌, sym, ap, ◌∙◌}
+use Rattle.std.specs.Prelude.{Ok, Err}
+use Rattle.std.proofs.Common.{rules}
+use Rattle.rules.proofs.Numbers.{above_0}
 use Rattle.account.specs.Rules.{broken}
+use Rattle.rules.specs.Numbers.{number_of, numbered, numbers}
 use Rattle.identify.specs.Seen.{opened_by}
-use Rattle.identify.specs.declared.Opened.TheVariants.{Probe, Refused}
 use Rattle.probe_words.specs.Layout.{scalars}
+use Rattle.live_probe.specs.Live.{opening, open_by, live_open}
+use Rattle.live_probe.proofs.Opening.{unknown, turned_away, opens}
 use Rattle.live_probe.proofs.Flying.{begun}
-use Rattle.live_probe.specs.Live.{config_by, opening}
 use Rattle.live_probe.proofs.open.Goals as goal
 
-pub returns-then-options-ne0 : goal.returns-then-options-ne0
-returns-then-options-ne0 c =
-    let a = c.args in
-    let g = config_by a.amplitude a.duration_s a.washout_tc_s a.extension a.extension_amplitude a.extension_duration_s in
-    let s = scalars a.words.now a.floats.now in
-    let is = unknown g s a.options c.if-options-ne0.true in
-    record { opening = is; flown = begun a.options g s s 9 is }
+pub returns-then-options-ne0-clause-opening : goal.returns-then-options-ne0-clause-opening
+unfolding numbered number_of
+returns-then-options-ne0-clause-opening c = unknown c.args.config (scalars c.args.words.now c.args.floats.now) c.args.options c.if-options-ne0.true
 
-pub returns-in-Refused : goal.returns-in-Refused
-returns-in-Refused c =
-    let a = c.args in
-    let g = config_by a.amplitude a.duration_s a.washout_tc_s a.extension a.extension_amplitude a.extension_duration_s in
-    let s = scalars a.words.now a.floats.now in
-    let n = c.in-Refused.number in
-    let o : opened_by (broken g) g ≡ Refused n = rw (← c.noisy_by-noisy.ensures) (sym c.new.ensures ∙ c.in-Refused.is) in
-    let is = turned_away g s a.options c.if-options-ne0.false n o in
-    record { opening = is; flown = begun a.options g s s n is }
+pub returns-then-options-ne0-clause-flown : goal.returns-then-options-ne0-clause-flown
+returns-then-options-ne0-clause-flown c =
+    let s = scalars c.args.words.now c.args.floats.now in
+    begun c.args.options c.args.config s s _ (returns-then-options-ne0-clause-opening c)
 
-pub returns-in-Probe : goal.returns-in-Probe
-returns-in-Probe c =
+pub returns-in_err-probe-clause-opening : goal.returns-in_err-probe-clause-opening
+unfolding numbered numbers live_open open_by opened_by
+returns-in_err-probe-clause-opening c = search (rules, above_0)
+
+pub returns-in_err-probe-clause-flown : goal.returns-in_err-probe-clause-flown
+returns-in_err-probe-clause-flown c =
+    let s = scalars c.args.words.now c.args.floats.now in
+    begun c.args.options c.args.config s s _ (returns-in_err-probe-clause-opening c)
+
+pub returns-clause-opening : goal.returns-clause-opening
+unfolding numbered numbers
+returns-clause-opening c =
     let a = c.args in
-    let g = config_by a.amplitude a.duration_s a.washout_tc_s a.extension a.extension_amplitude a.extension_duration_s in
-    let s = scalars a.words.now a.floats.now in
-    let p = c.in-Probe.probe in
-    let o : opened_by (broken g) g ≡ Probe p = rw (← c.noisy_by-noisy.ensures) (sym c.new.ensures ∙ c.in-Probe.is) in
-    let is = ap (opening 0) c.write_probe.ensures.scalars ∙ opens g s a.options c.if-options-ne0.false p o in
-    record { opening = is; flown = begun a.options g s _ 0 is }
+    let o : opened_by (broken a.config) a.config ≡ Ok c.in_ok-probe.probe = rw (← c.new.ensures, c.in_ok-probe.was) in
+    ap (opening 0) c.write_probe.ensures.scalars ∙ opens a.config (scalars a.words.now a.floats.now) a.options c.if-options-ne0.false c.in_ok-probe.probe o
+
+pub returns-clause-flown : goal.returns-clause-flown
+returns-clause-flown c = begun c.args.options c.args.config (scalars c.args.words.now c.args.floats.now) _ _ (returns-clause-opening c)

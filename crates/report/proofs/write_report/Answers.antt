@@ -1,16 +1,11 @@
 -- The floats, written behind the fields, complete the report's bytes.
-use Prim.Native.Nat.{◌≤◌}
-use mathlib.Core.Path.{sym}
-use native.Mathlib.Omega.{arith}
-use lib.ListN.{length}
-use Rattle.report.proofs.Bytes.{length_report, report_written}
-use Rattle.wire.proofs.Written.{past}
+use Rattle.std.proofs.Common.{◌≡◌, ◌≤◌, rules, length, arith}
+use Rattle.report.proofs.Bytes.{report_written}
 use Rattle.report.proofs.write_report.Goals as goal
-
-pub returns-then-out-lt36 : goal.returns-then-out-lt36
-returns-then-out-lt36 c = let a = c.args in sym (past 0 _ a.out.now (rw (length_report a.report) (omega arith)))
 
 pub returns : goal.returns
 returns c =
-    let h : 36 ≤ length c.args.out.now = omega arith in
-    rw (c.write_floats.ensures, c.floats.ensures, c.write_fields.ensures) (report_written c.args.report c.args.out.now h)
+    let a = c.args in
+    let h : 36 ≤ length a.out.now = omega arith in
+    let six : length c.floats.result ≡ 6 = search rules in
+    rw (c.write_words-2.ensures.all (omega arith), c.floats.ensures, c.write_words.ensures.all (omega arith), c.third_word.ensures, c.second_word.ensures, c.first_word.ensures) (report_written a.report a.out.now h)

@@ -5,4 +5,4 @@ use Rattle.rows.specs.Rows.{projection, each}
 use Rattle.rows.proofs.add_projections.Given as goal
 
 abbrev pub invariant-loop-i : goal.invariant-loop-i
-invariant-loop-i l = l.projected ≡ each l.i (λ i s. add binary32 s (projection l.terms l.target i)) l.initial.projected
+invariant-loop-i l = l.projected ≡ each l.i (λ i s. add binary32 s (projection l.terms l.factor i)) l.initial.projected

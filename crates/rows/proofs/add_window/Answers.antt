@@ -16,7 +16,7 @@ loop-k-preserved-then-run-lt-HISTORY c = skipped c.loop-k.invariant c.next_run-r
 pub regressors-terms-requires : goal.regressors-terms-requires
 unfolding stored_of
 regressors-terms-requires c =
-    (omega arith, omega arith, late c.loop-k.invariant c.next_run-run.ensures c.if-run-lt-HISTORY.false, omega (arith, c.stored-k-end.ensures))
+    (late c.loop-k.invariant c.next_run-run.ensures c.if-run-lt-HISTORY.false, omega (arith, c.stored-k-end.ensures))
 
 pub overflow_sub-target : goal.overflow_sub-target
 overflow_sub-target c = omega (arith, late c.loop-k.invariant c.next_run-run.ensures c.if-run-lt-HISTORY.false)

@@ -4,4 +4,4 @@ use Rattle.rows.proofs.Together.{add_row}
 use Rattle.rows.proofs.add_window.Given as goal
 
 abbrev pub invariant-loop-k : goal.invariant-loop-k
-invariant-loop-k l = Walked l.held (add_row l.rates l.moments l.delay) l.initial.sums l.k l.run l.sums
+invariant-loop-k l = Walked l.held (add_row l.rates l.moments l.delay.ticks) l.initial.sums l.k l.run l.sums

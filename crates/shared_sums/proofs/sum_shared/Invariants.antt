@@ -1,7 +1,7 @@
 -- `shared_sums::sum_shared` meets its contract. The loop's invariant: the sums are the walk over the ticks before k, and `run` is the good ticks in a row there.
 use Prim.Native.Nat.{◌≤◌}
 use Rattle.rows.proofs.Walked.{Walked}
-use Rattle.shared_sums.proofs.Arrays.{no_shared, add_shared}
+use Rattle.shared_sums.proofs.Walk.{no_shared, add_shared}
 use Rattle.shared_sums.proofs.sum_shared.Given as goal
 
 abbrev pub invariant-loop-k : goal.invariant-loop-k

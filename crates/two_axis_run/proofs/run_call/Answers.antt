@@ -3,9 +3,10 @@ use Prim.Native.Nat.{◌+◌, ◌*◌}
 use Rattle.two_axis_run.proofs.Words.{call_in_part, words_in_part}
 use Rattle.two_axis_run.proofs.run_call.Goals as goal
 
-pub returns : goal.returns
-returns c =
-    let r = c.run_call in
+pub returns-clause-left : goal.returns-clause-left
+returns-clause-left c = rw (call_in_part (20 * c.args.k) c.args.calls.now) at c.run_call.ensures.left
+
+pub returns-clause-output : goal.returns-clause-output
+returns-clause-output c =
     let a = c.args in
-    let call = call_in_part (20 * a.k) a.calls.now in
-    (rw call at r.ensures.0, (λ x. rw call at (r.ensures.1.0 x), rw (r.ensures.1.1, call) (words_in_part (77 + 8 * a.k) _ a.output.now c.requires.1)))
+    rw (c.run_call.ensures.output, call_in_part (20 * a.k) a.calls.now) (words_in_part (77 + 8 * a.k) _ a.output.now c.requires.1)

@@ -5,11 +5,10 @@ use native.Mathlib.Numerals.{add-one}
 use lib.ListN.{length}
 use Rattle.wire.specs.Words.{word_bytes}
 use Rattle.wire.proofs.Written.{nothing_written}
-use Rattle.window.specs.Lent.{lent}
-use Rattle.two_axis.specs.Axes.{axes}
+use Rattle.std.proofs.Common.{rules}
 use Rattle.two_axis.specs.Probes.{replies_two}
 use Rattle.two_axis_probe.specs.declared.TwoAxisProbe.{TwoAxisProbe}
-use Rattle.two_axis_probe.specs.Stepped.{probes_of}
+use Rattle.two_axis_probe.specs.Stepped.{probes_of, lents_of}
 use Rattle.two_axis_probe.specs.Held.{Stands}
 use Rattle.two_axis_probe.proofs.Flying.{begins, holds}
 use Rattle.two_axis_run.specs.TwoAxisRun.{calls_to, calls_of, in_turn}
@@ -21,38 +20,40 @@ pub loop-k-init : goal.loop-k-init
 unfolding calls_to replies_two in_turn word_bytes
 loop-k-init c =
     let a = c.args in
-    let found = axes (lent a.rates1.now a.moments1.now a.offsets1.now a.held1.now) (lent a.rates2.now a.moments2.now a.offsets2.now a.held2.now) in (
+    let found = lents_of a.lent1.now a.lent2.now in (
       omega arith,
+      search rules,
+      search rules,
       λ config e. (
         subst (λ (q : TwoAxisProbe). Stands config (calls_to a.calls.now 0) (probes_of q) found) (sym e) (begins config found (wholes c.requires.1 c.requires.2)),
         sym (nothing_written 77 a.output.now),
       ),
     )
 
-pub run_call-p-requires : goal.run_call-p-requires
-run_call-p-requires c = (calls_fit (length c.args.calls.now) c.loop-k.k c.loop-k-test.true, omega (arith, c.requires.0))
-
-pub overflow_step-k : goal.overflow_step-k
-overflow_step-k c = record { fits = omega (arith, calls_fit (length c.args.calls.now) c.loop-k.k c.loop-k-test.true) }
+pub run_call-requires : goal.run_call-requires
+run_call-requires c = (calls_fit (length c.args.calls.now) c.loop-k.k c.loop-k-test.true, omega (arith, c.requires.0))
 
 pub loop-k-preserved : goal.loop-k-preserved
 loop-k-preserved c =
-    let r = c.run_call-p in
+    let r = c.run_call.ensures in
     let a = c.args in
     let k = c.loop-k.k in
+    let i = c.loop-k.invariant in
     let more = c.loop-k-test.true in (
       omega (arith, more),
+      search (rules, i.1, r.left),
+      search (rules, i.2, r.left),
       λ config e.
-          let i = c.loop-k.invariant.1 config e in (
-            rw add-one (stands_on config a.calls.now k i.0 r.ensures.0 r.ensures.1.0),
-            rw (add-one, r.ensures.1.1, i.1) (words_in config a.calls.now k i.0 a.output.now (omega (arith, c.requires.0, more))),
+          let is = i.3 config e in (
+            rw add-one (stands_on config a.calls.now k is.0 (rw (r.left.first, r.left.second)) (rw (r.left.lent1.contents, r.left.lent2.contents))),
+            rw (add-one, r.output, is.1) (words_in config a.calls.now k is.0 a.output.now (omega (arith, c.requires.0, more))),
           ),
     )
 
-pub returns : goal.returns
+pub returns-clause-accounted : goal.returns-clause-accounted
 unfolding calls_of
-returns c =
-    let a = c.args in
-    let last : c.loop-k.k ≡ length a.calls.now / 20 = omega arith in
-    let i = c.loop-k.invariant.1 a.config c.fresh-p.ensures in
-    record { accounted = rw (← last) (holds i.0); output = rw (← last) i.1 }
+returns-clause-accounted c = λ config e. let last : c.loop-k.k ≡ length c.args.calls.now / 20 = omega arith in rw (← last) (holds (c.loop-k.invariant.3 config e).0)
+
+pub returns-clause-output : goal.returns-clause-output
+unfolding calls_of
+returns-clause-output c = λ config e. let last : c.loop-k.k ≡ length c.args.calls.now / 20 = omega arith in rw (← last) (c.loop-k.invariant.3 config e).1

@@ -1,9 +1,0 @@
--- `kernel::pole_fits` meets its contract. The loop's invariant: the first s steps have their fit.
-use Rattle.std.proofs.Common.{◌≡◌, replicate, None}
-use Rattle.float.specs.Series.{fill}
-use Rattle.gain.specs.Gain.{step_count}
-use Rattle.kernel.specs.Kernel.{solved_step}
-use Rattle.kernel.proofs.pole_fits.Given as goal
-
-abbrev pub invariant-loop-s : goal.invariant-loop-s
-invariant-loop-s l = l.fit-items ≡ fill (λ s ys. solved_step l.sums l.shared l.q s) (replicate step_count None) l.s
