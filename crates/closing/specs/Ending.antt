@@ -5,7 +5,8 @@ use Rattle.sweep.specs.declared.SquareSweep.{SquareSweep}
 use Rattle.sweep.specs.Sweep.{with_amplitude}
 use Rattle.window.specs.declared.Window.{Window}
 use Rattle.window.specs.Samples.{Samples}
-use Rattle.window.specs.Arrays.{stored_of}
+use Rattle.window.specs.Arrays.{stored_of, samples_in}
+use Rattle.window.specs.declared.Readings.{Readings}
 use Rattle.recorded.specs.declared.Classified.{Classified}
 use Rattle.recorded.specs.Classify.{classify}
 use Rattle.account.specs.declared.IdentifyStatus.TheVariants.{Running}
@@ -13,6 +14,7 @@ use Rattle.account.specs.declared.IdentifyExtension.{IdentifyExtension}
 use Rattle.std.specs.Prelude.{Option, Some, None}
 use Rattle.account.specs.Probe.{Standing, Closing, finished, takes, close}
 use Rattle.account.specs.Account.{is_integrated}
+use Rattle.closing.specs.declared.Tick.{Tick}
 use Rattle.closing.specs.declared.Stand.{Stand}
 use Rattle.closing.specs.declared.Ending.{Ending}
 
@@ -75,3 +77,16 @@ ended_by (Some x) class now w end unused s rates moments =
 unfoldable pub closed_due : Option Classified → Bool → Float → Window → Float → Option IdentifyExtension → SquareSweep → (rates moments : List Float) → Ending
 closed_due None asked now w end unused s rates moments = ahead_of now end unused s
 closed_due (Some class) asked now w end unused s rates moments = ended_by (takes asked class unused) class now w end unused s rates moments
+
+-- ---- as the contracts name them
+-- the samples of a window as a fit reads it; offsets enter no fit, so they may be any
+abbrev pub samples_read : Readings → List Float → Samples
+samples_read r offsets = samples_in r.window r.rates.now r.moments.now offsets r.held.now
+
+-- the end of a tick of a probe that flies alone
+abbrev pub closed_alone : Tick → Samples → Ending
+closed_alone t w = closed_by false t.now_s t.end_s t.noisy t.sweep w
+
+-- the end that the class of a window leads to, wherever the end time is
+abbrev pub ended_alone : Tick → Readings → Samples → Ending
+ended_alone t r w = ended_by (takes false (class_of w) t.noisy) (class_of w) t.now_s r.window t.end_s t.noisy t.sweep r.rates.now r.moments.now

@@ -1,14 +1,13 @@
 // The end of a tick: the probe goes on, takes its extension, or ends with what the class of its window leads to.
 #![tactic(auto)]
 
-ghost use Rattle.std.specs.Prelude.{◌≡◌, List, Float, false};
-ghost use Rattle.window.specs.Arrays.{samples_in};
+ghost use Rattle.std.specs.Prelude.{◌≡◌, List, Float};
 ghost use Rattle.std.specs.Float.Ieee.{lt};
 ghost use Rattle.recorded.specs.declared.Classified.TheVariants.{Integrated};
 ghost use Rattle.account.specs.declared.IdentifyStatus.TheVariants.{Running};
 ghost use Rattle.account.specs.Probe.{takes, status_of};
 ghost use Rattle.account.specs.Account.{is_integrated};
-ghost use Rattle.closing.specs.Ending.{ending, ahead_of, stand_of, finished_in, stands_by, class_of, due_by, asks_of, ended_by, closed_due, closed_by};
+ghost use Rattle.closing.specs.Ending.{ending, ahead_of, stand_of, finished_in, stands_by, class_of, due_by, asks_of, ended_by, closed_due, samples_read, closed_alone, ended_alone};
 
 use account::{IdentifyExtension, IdentifyStatus};
 use delay::RateModel;
@@ -162,14 +161,14 @@ pub fn goes_on(tick: Tick) -> Ending
 #[cold]
 #[inline(never)]
 fn class_of(readings: Readings<'_>) -> Classified
-    ensures { (offsets : List Float) → result ≡ class_of (samples_in readings.entry.window readings.entry.rates.now readings.entry.moments.now offsets readings.entry.held.now) }
+    ensures { (offsets : List Float) → result ≡ class_of (samples_read readings.entry offsets) }
 {
     recorded::classify(readings)
 }
 
 // What the tick at now_s finds, its sample stored: none while its end time is ahead, else the class of the window.
 pub fn due_at(now_s: f32, end_s: f32, readings: Readings<'_>) -> Option<Classified>
-    ensures { (offsets : List Float) → result ≡ due_by (lt now_s end_s) (samples_in readings.entry.window readings.entry.rates.now readings.entry.moments.now offsets readings.entry.held.now) }
+    ensures { (offsets : List Float) → result ≡ due_by (lt now_s end_s) (samples_read readings.entry offsets) }
 {
     let ahead = now_s < end_s;
     if ahead {
@@ -217,9 +216,9 @@ pub fn close_due(due: Option<Classified>, asked: bool, tick: Tick, readings: Rea
     end_by(class, asked, tick, readings)
 }
 
-// The end of a tick of a probe that flies alone, whose end time is reached.
+// The end that the class of its window leads a tick to, of a probe that flies alone; wherever its end time is.
 pub fn close_over(tick: Tick, readings: Readings<'_>) -> Ending
-    ensures { (offsets : List Float) → lt tick.now_s tick.end_s ≡ false → result ≡ closed_by false tick.now_s tick.end_s tick.noisy tick.sweep (samples_in readings.entry.window readings.entry.rates.now readings.entry.moments.now offsets readings.entry.held.now) }
+    ensures { (offsets : List Float) → result ≡ ended_alone tick readings.entry (samples_read readings.entry offsets) }
 {
     let class = class_of(readings);
     end_by(class, false, tick, readings)
@@ -227,7 +226,7 @@ pub fn close_over(tick: Tick, readings: Readings<'_>) -> Ending
 
 // The end of a tick of a probe that flies alone.
 pub fn close(tick: Tick, readings: Readings<'_>) -> Ending
-    ensures { (offsets : List Float) → result ≡ closed_by false tick.now_s tick.end_s tick.noisy tick.sweep (samples_in readings.entry.window readings.entry.rates.now readings.entry.moments.now offsets readings.entry.held.now) }
+    ensures { (offsets : List Float) → result ≡ closed_alone tick (samples_read readings.entry offsets) }
 {
     if tick.now_s < tick.end_s {
         return goes_on(tick);
