@@ -28,13 +28,12 @@ ending_of c = record {
   duration_s = c.end;
   noisy = c.unused;
   sweep = c.sweep;
-  status = c.standing.status;
-  gain_fits = c.standing.fits;
+  stand = stand_of c.standing;
 }
 
 -- an ending with these fields
 abbrev pub ending : Float → Option IdentifyExtension → SquareSweep → Stand → Ending
-ending end unused s z = record { duration_s = end; noisy = unused; sweep = s; status = z.status; gain_fits = z.gain_fits }
+ending end unused s z = record { duration_s = end; noisy = unused; sweep = s; stand = z }
 
 -- with the end time still ahead
 abbrev pub ahead_of : (now end : Float) → Option IdentifyExtension → SquareSweep → Ending

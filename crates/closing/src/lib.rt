@@ -37,8 +37,7 @@ pub struct Ending {
     pub duration_s: f32,
     pub noisy: Option<IdentifyExtension>,
     pub sweep: SquareSweep,
-    pub status: IdentifyStatus,
-    pub gain_fits: u32,
+    pub stand: Stand,
 }
 
 #[tactic(auto, unfolding(account::specs::Account::is_integrated))]
@@ -133,20 +132,17 @@ fn stand_at(now_s: f32, duration_s: f32, class: Classified, readings: Readings<'
     finish(class, readings)
 }
 
-fn ended_at(
-    duration_s: f32,
-    noisy: Option<IdentifyExtension>,
-    sweep: SquareSweep,
-    stand: Stand,
-) -> Ending
-    ensures { result ≡ ending duration_s noisy sweep stand }
-{
-    Ending {
-        duration_s,
-        noisy,
-        sweep,
-        status: stand.status,
-        gain_fits: stand.gain_fits,
+impl Tick {
+    // The tick with the probe's end time and extension as they were.
+    fn ended(self, stand: Stand) -> Ending
+        ensures { result ≡ ending self.end_s self.noisy self.sweep stand }
+    {
+        Ending {
+            duration_s: self.end_s,
+            noisy: self.noisy,
+            sweep: self.sweep,
+            stand,
+        }
     }
 }
 
@@ -154,7 +150,7 @@ fn ended_at(
 pub fn goes_on(tick: Tick) -> Ending
     ensures { result ≡ ahead_of tick.now_s tick.end_s tick.noisy tick.sweep }
 {
-    ended_at(tick.end_s, tick.noisy, tick.sweep, running(tick.now_s))
+    tick.ended(running(tick.now_s))
 }
 
 // The class of a window. A flight asks for it once or twice, so it stands apart from the ticks before it, as `end_by` does.
@@ -194,15 +190,14 @@ fn end_by(class: Classified, asked: bool, tick: Tick, readings: Readings<'_>) ->
 {
     let extension = taken_extension(asked, class, tick.noisy);
     let Some(x) = extension else {
-        return ended_at(tick.end_s, tick.noisy, tick.sweep, finish(class, readings));
+        return tick.ended(finish(class, readings));
     };
-    let louder = tick.sweep.with_amplitude(x.amplitude);
-    ended_at(
-        x.duration_s,
-        None,
-        louder,
-        stand_at(tick.now_s, x.duration_s, class, readings),
-    )
+    Ending {
+        duration_s: x.duration_s,
+        noisy: None,
+        sweep: tick.sweep.with_amplitude(x.amplitude),
+        stand: stand_at(tick.now_s, x.duration_s, class, readings),
+    }
 }
 
 // The end of a tick by what it finds, and whether the other axis asks for the extension.

@@ -76,6 +76,21 @@ fn is_bad(rate: f32, moment: f32) -> bool
 }
 
 impl LentArrays<'_> {
+    // A window whose samples stand in these arrays, as a fit reads it.
+    pub fn readings(&self, window: Window) -> Readings<'_>
+        ensures window { result.window ≡ window }
+        ensures rates { result.rates.now ≡ self.now.rates.now }
+        ensures moments { result.moments.now ≡ self.now.moments.now }
+        ensures held { result.held.now ≡ self.now.held.now }
+    {
+        Readings {
+            window,
+            rates: self.rates,
+            moments: self.moments,
+            held: self.held,
+        }
+    }
+
     // Stores one tick of a window, if there is room.
     pub fn record_tick(
         &mut self,
