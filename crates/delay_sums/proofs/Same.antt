@@ -1,40 +1,22 @@
 -- A delay's sums from the shared ones are its sums over the window: each entry is the same series of products, and a product's factors commute exactly.
-use Prim.Native.Nat.{ℕ, zero, suc, ◌+◌, ◌*◌, ◌-◌, ◌<◌, ◌≤◌}
+use Prim.Native.Nat.{ℕ, zero, suc, ◌+◌, ◌-◌, ◌<◌, ◌≤◌}
 use mathlib.Core.Path.{◌≡◌, refl, sym, ap, ◌∙◌, fun_ext}
 use mathlib.Core.Bool.{Bool, true, false, cond}
 use mathlib.Core.List.{List, []}
-use native.Mathlib.Nat.{mul_comm}
 use native.Mathlib.Omega.{arith}
 use borrow.Author.Tests.{lt-ltb, le-ltb, ltb-true, ltb-false, leb-true, leb-false}
 use lib.Dec.{ltb, leb}
 use lib.ListN.{replicate}
-use lib.Ieee.{Float, Format, nan, inf, fin, binary32, mul, unlike, up, down}
+use lib.Ieee.{Float, nan, binary32, mul}
 use Rattle.float.specs.Values.{zero32}
 use Rattle.float.specs.Series.{at}
 use Rattle.float.proofs.Fill.{filled}
+use Rattle.float.proofs.Products.{commutes}
 use Rattle.rows.specs.Rows.{target, regressors, product, projection, each, sum_rows, sums_by, window_sums, no_sums}
 use Rattle.rows.proofs.Each.{fill_each, each_alike, each_at}
 use Rattle.rows.proofs.Together.{same_sums}
 use Rattle.shared_sums.specs.Shared.{common_terms, last_moments, summed, shared_sums}
 use Rattle.delay_sums.specs.Delays.{sum_at, cross_sum, place_of, against, delay_sums}
-
-unlike_comm : (s t : Bool) → unlike s t ≡ unlike t s
-unlike_comm true true = refl
-unlike_comm true false = refl
-unlike_comm false true = refl
-unlike_comm false false = refl
-
-commutes : (f : Format) (x y : Float) → mul f x y ≡ mul f y x
-unfolding mul
-commutes f nan nan = refl
-commutes f nan (inf t) = refl
-commutes f nan (fin t n d) = refl
-commutes f (inf s) nan = refl
-commutes f (inf s) (inf t) = rw (unlike_comm s t)
-commutes f (inf s) (fin t n d) = rw (unlike_comm s t)
-commutes f (fin s m e) nan = refl
-commutes f (fin s m e) (inf t) = rw (unlike_comm s t)
-commutes f (fin s m e) (fin t n d) = rw (unlike_comm s t, mul_comm (m * up e) (n * up d), mul_comm (down e) (down d))
 
 sum_by : (marks : List Bool) (len : ℕ) (f g : ℕ → Float) → ((k : ℕ) → f k ≡ g k) → sum_rows marks len f zero32 ≡ sum_rows marks len g zero32
 sum_by marks len f g e = ap (λ (h : ℕ → Float). sum_rows marks len h zero32) (fun_ext e)

@@ -20,3 +20,4 @@ pub mod LogSteps
 pub mod LogFields
 pub mod Made
 pub mod Folds
+pub mod Products

@@ -1,15 +1,17 @@
 -- A delay's sums, each of which is walked by itself, are one walk that adds a row to all of them.
 use Prim.Native.Nat.{ℕ, zero, suc}
-use mathlib.Core.Path.{◌≡◌, refl, sym, ◌∙◌}
+use mathlib.Core.Path.{◌≡◌, refl, sym, ap, ◌∙◌}
 use mathlib.Core.Bool.{Bool, true, false, cond}
 use mathlib.Core.List.{List}
 use lib.Ieee.{Float, binary32, add, mul}
 use Rattle.float.specs.Values.{zero32}
-use Rattle.float.specs.Series.{sum_to}
+use Rattle.float.specs.Series.{at, sum_to}
+use Rattle.float.proofs.Products.{commutes}
 use Rattle.window.specs.Walk.{run, over, mark_at, is_row}
 use Rattle.window.specs.Arrays.{many_to}
 use Rattle.least_squares.specs.declared.Sums.{Sums}
 use Rattle.rows.specs.Rows.{target, regressors, product, projection, each, sum_rows, sums_by, window_sums}
+use Rattle.rows.proofs.Each.{each_by}
 use Rattle.rows.proofs.Walked.{each_over, each_each_over}
 
 -- a part of what is walked is a walk of that part
@@ -46,11 +48,16 @@ add_row rates moments d s k = record {
 
 -- the row's terms and target as they stand in the code
 pub row_added : (rates moments : List Float) (d k : ℕ) (s : Sums) {φ : List Float} {t : Float} {n : List (List Float)} {p : List Float} → φ ≡ regressors rates moments d k → t ≡ target rates k
-    → n ≡ each 6 (λ j column. each 6 (λ i x. add binary32 x (product φ i j)) column) s.normal
-    → p ≡ each 6 (λ i x. add binary32 x (projection φ t i)) s.projected
+    → n ≡ each 6 (λ j column. each 6 (λ i x. add binary32 x (mul binary32 (at φ j) (at φ i))) column) s.normal
+    → p ≡ each 6 (λ i x. add binary32 x (mul binary32 t (at φ i))) s.projected
     → sums_of n p (add binary32 s.target_squared (mul binary32 t t)) ≡ add_row rates moments d s k
-unfolding add_row
-row_added rates moments d k s e f g h = same_sums _ _ (simp e at g) (simp (e, f) at h) (rw f)
+unfolding add_row product projection
+row_added rates moments d k s {φ} {t} e f g h =
+    let swapped : (y z x : Float) → add binary32 x (mul binary32 y z) ≡ add binary32 x (mul binary32 z y) = λ y z x. ap (add binary32 x) (commutes binary32 y z) in
+    same_sums _ _
+    (simp e at (g ∙ each_by 6 _ _ s.normal (λ j column. each_by 6 _ _ column (λ i x. swapped (at φ j) (at φ i) x))))
+    (simp (e, f) at (h ∙ each_by 6 _ _ s.projected (λ i x. swapped t (at φ i) x)))
+    (rw f)
 
 module _ (rates moments : List Float) (marks : List Bool) (d : ℕ) (start : Sums) where
   abbrev walked : ℕ → Sums

@@ -3,8 +3,9 @@
 
 ghost use Rattle.std.specs.Prelude.{◌≡◌, ◌≤◌, ◌<◌};
 ghost use Rattle.std.specs.Float.{binary32};
-ghost use Rattle.std.specs.Float.Ieee.{add};
-ghost use Rattle.rows.specs.Rows.{delay_within, next_run, regressors as regressors_of, product, projection, each, window_sums, no_sums};
+ghost use Rattle.std.specs.Float.Ieee.{add, mul};
+ghost use Rattle.float.specs.Series.{at};
+ghost use Rattle.rows.specs.Rows.{delay_within, next_run, regressors as regressors_of, each, window_sums, no_sums};
 ghost use Rattle.window.specs.Arrays.{stored_of};
 
 use least_squares::Sums;
@@ -58,24 +59,28 @@ fn regressors(rates: &[f32; 2048], moments: &[f32; 2048], delay: FitDelay, k: us
     ]
 }
 
-// A row's terms times one factor, each added to its sum. By the place, here and below: after a loop over `iter_mut().zip(..)` a
-// proof does not know what the array holds.
-#[tactic(auto, using(crate::proofs::Each::each_next), unfolding(crate::specs::Rows::each, crate::specs::Rows::projection))]
-fn add_projections(projected: &mut [f32; 6], terms: &[f32; 6], factor: f32)
-    ensures { projected.new ≡ each 6 (λ i s. add binary32 s (projection terms.now factor i)) projected.old }
+// One factor times each entry, added to its sum. By the place, here and below: after a loop over `iter_mut().zip(..)` a proof does
+// not know what the array holds.
+#[tactic(auto, using(crate::proofs::Each::each_next), unfolding(crate::specs::Rows::each))]
+fn add_scaled<const N: usize>(sums: &mut [f32; N], factor: f32, entries: &[f32; N])
+    ensures { sums.new ≡ each N (λ b s. add binary32 s (mul binary32 factor (at entries.now b))) sums.old }
 {
-    for (i, sum) in projected.iter_mut().enumerate() {
-        *sum += terms[i] * factor;
+    for (b, sum) in sums.iter_mut().enumerate() {
+        *sum += factor * entries[b];
     }
 }
 
-// A row's terms times each of them, column by column.
-#[tactic(auto, using(crate::proofs::Each::each_next), unfolding(crate::specs::Rows::each, crate::specs::Rows::product, crate::specs::Rows::projection))]
-fn add_products(normal: &mut [[f32; 6]; 6], terms: &[f32; 6])
-    ensures { normal.new ≡ each 6 (λ j column. each 6 (λ i s. add binary32 s (product terms.now i j)) column) normal.old }
+// Each entry of one times each of the other, added to their sums.
+#[tactic(auto, using(crate::proofs::Each::each_next), unfolding(crate::specs::Rows::each))]
+pub fn add_products<const M: usize, const N: usize>(
+    sums: &mut [[f32; N]; M],
+    left: &[f32; M],
+    right: &[f32; N],
+)
+    ensures { sums.new ≡ each M (λ a r. each N (λ b s. add binary32 s (mul binary32 (at left.now a) (at right.now b))) r) sums.old }
 {
-    for (j, column) in normal.iter_mut().enumerate() {
-        add_projections(column, terms, terms[j]);
+    for (a, scaled) in sums.iter_mut().enumerate() {
+        add_scaled(scaled, left[a], right);
     }
 }
 
@@ -113,8 +118,8 @@ pub fn add_window(readings: Readings<'_>, d: usize, start: Sums) -> Sums
         }
         let terms = regressors(rates, moments, delay, k);
         let target = rates[k] - rates[k - 1];
-        add_products(&mut sums.normal, &terms);
-        add_projections(&mut sums.projected, &terms, target);
+        add_products(&mut sums.normal, &terms, &terms);
+        add_scaled(&mut sums.projected, target, &terms);
         sums.target_squared += target * target;
     }
     sums

@@ -54,32 +54,7 @@ impl Row {
     }
 }
 
-// One factor times each entry, added to its sum. By the place, here and below: after a loop over `iter_mut().zip(..)` a proof does
-// not know what the array holds.
-#[tactic(auto, using(rows::proofs::Each::each_next), unfolding(rows::specs::Rows::each))]
-fn add_scaled<const N: usize>(sums: &mut [f32; N], factor: f32, entries: &[f32; N])
-    ensures { sums.new ≡ each N (λ b s. add binary32 s (mul binary32 factor (at entries.now b))) sums.old }
-{
-    for (b, sum) in sums.iter_mut().enumerate() {
-        *sum += factor * entries[b];
-    }
-}
-
-// Each entry of one times each of the other, added to their sums.
-#[tactic(auto, using(rows::proofs::Each::each_next), unfolding(rows::specs::Rows::each))]
-fn add_products<const M: usize, const N: usize>(
-    sums: &mut [[f32; N]; M],
-    left: &[f32; M],
-    right: &[f32; N],
-)
-    ensures { sums.new ≡ each M (λ a r. each N (λ b s. add binary32 s (mul binary32 (at left.now a) (at right.now b))) r) sums.old }
-{
-    for (a, scaled) in sums.iter_mut().enumerate() {
-        add_scaled(scaled, left[a], right);
-    }
-}
-
-// Moments that stand o ticks apart.
+// Moments that stand o ticks apart. By the place: after a loop over `iter_mut().zip(..)` a proof does not know what the array holds.
 #[tactic(auto, using(rows::proofs::Each::each_next, crate::proofs::Tail::tail_at), unfolding(rows::specs::Rows::each))]
 fn add_pairs(sums: &mut [f32; 12], moments: &[f32; 12], o: usize)
     requires { o < 3 }
@@ -126,8 +101,8 @@ pub fn sum_shared(readings: Readings<'_>) -> SharedSums
             continue;
         }
         let row = Row::of_tick(rates, moments, k);
-        add_products(&mut sums.common, &row.terms, &row.terms);
-        add_products(&mut sums.lagged, &row.terms, &row.moments);
+        rows::add_products(&mut sums.common, &row.terms, &row.terms);
+        rows::add_products(&mut sums.lagged, &row.terms, &row.moments);
         add_all_pairs(&mut sums.pairs, &row.moments);
         sums.rows += 1;
     }

@@ -25,7 +25,7 @@ pub loop-k-preserved : goal.loop-k-preserved
 unfolding target sub
 loop-k-preserved c =
     added c.loop-k.invariant c.next_run-run.ensures c.if-run-lt-HISTORY.false
-    (row_added _ _ _ _ _ c.regressors-terms.ensures refl c.add_products.ensures c.add_projections.ensures)
+    (row_added _ _ _ _ _ c.regressors-terms.ensures refl c.add_products.ensures c.add_scaled.ensures)
 
 pub returns : goal.returns
 returns c =
