@@ -42,11 +42,7 @@ fn factor_column(a: &Columns, l: &Columns, j: usize) -> [f32; 6]
     ensures { result ≡ factor_column a.now j l.now }
 {
     let diagonal = float::root(reduced_entry(l, j, j, a[j][j]));
-    let mut column = [0.0f32; 6];
-    for (i, entry) in column.iter_mut().enumerate() {
-        *entry = factor_entry(a, l, i, j, diagonal);
-    }
-    column
+    std::array::from_fn(|i| factor_entry(a, l, i, j, diagonal))
 }
 
 // Cholesky's factor of a matrix.

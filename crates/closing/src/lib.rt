@@ -44,10 +44,7 @@ pub struct Ending {
 fn is_integrated(class: Classified) -> bool
     ensures { result ≡ is_integrated class }
 {
-    match class {
-        Classified::Integrated => true,
-        _ => false,
-    }
+    matches!(class, Classified::Integrated)
 }
 
 // The extension that a class of window takes; where the other axis asks for it, any class does.
@@ -74,6 +71,16 @@ fn status_of(model: Option<RateModel>) -> IdentifyStatus
     model.map_or(IdentifyStatus::Unexcited, IdentifyStatus::Done)
 }
 
+// A status for which no gain fit was made.
+fn unfitted(status: IdentifyStatus) -> Stand
+    ensures { result ≡ record { status = status; gain_fits = 0 } }
+{
+    Stand {
+        status,
+        gain_fits: 0,
+    }
+}
+
 fn search(readings: Readings<'_>) -> Stand
     ensures { result ≡ stand_of (finished_in Integrated readings.entry.window readings.entry.rates.now readings.entry.moments.now) }
 {
@@ -96,29 +103,17 @@ fn finish(class: Classified, readings: Readings<'_>) -> Stand
     ensures { result ≡ stand_of (finished_in class readings.entry.window readings.entry.rates.now readings.entry.moments.now) }
 {
     match class {
-        Classified::Recorded(model) => Stand {
-            status: IdentifyStatus::Done(model),
-            gain_fits: 0,
-        },
+        Classified::Recorded(model) => unfitted(IdentifyStatus::Done(model)),
         Classified::Integrated => search(readings),
-        Classified::Unexcited => Stand {
-            status: IdentifyStatus::Unexcited,
-            gain_fits: 0,
-        },
-        Classified::Saturated => Stand {
-            status: IdentifyStatus::Saturated,
-            gain_fits: 0,
-        },
+        Classified::Unexcited => unfitted(IdentifyStatus::Unexcited),
+        Classified::Saturated => unfitted(IdentifyStatus::Saturated),
     }
 }
 
 fn running(elapsed_s: f32) -> Stand
     ensures { result ≡ record { status = Running elapsed_s; gain_fits = 0 } }
 {
-    Stand {
-        status: IdentifyStatus::Running(elapsed_s),
-        gain_fits: 0,
-    }
+    unfitted(IdentifyStatus::Running(elapsed_s))
 }
 
 // Where a probe stands at now_s: running before duration_s, and from then on where the class of its window leads.

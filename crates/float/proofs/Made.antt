@@ -2,6 +2,7 @@
 use Rattle.std.proofs.Common.{◌≡◌, ℕ, zero, suc, ◌+◌, ◌<◌, ◌≤◌, List, length, get_or, refl, sym, ◌∙◌, arith}
 use mathlib.Core.Logic.{⊎_elim}
 use native.Mathlib.Nat.{eq-or-lt_of_le}
+use lib.ListN.{replicate, length-replicate}
 use lib.Seq.{ext_get_or}
 use denote.Param.Members.{Mut}
 use Rattle.std.specs.Array.{IsFromFnResult, IsFromFnResultFrom}
@@ -28,3 +29,7 @@ module _ {F B : Type 0} (g : Mut F (ℕ × Unit {0}) B) (f : F) (h : ℕ → B) 
       let v : n ≤ length l = omega arith in
       let w : j < n = omega (arith, m.long) in
       each_made f ys e 0 n j refl m.each (omega arith) u ∙ sym (filled (λ k l. h k) l e n j v w))
+
+  -- an array that is made anew
+  pub made_new : (ys : List B) (n : ℕ) (e : B) → IsFromFnResult g f ys n → ys ≡ fill (λ k l. h k) (replicate n e) n
+  made_new ys n e m = made ys (replicate n e) n e (length-replicate n e) m

@@ -1,6 +1,6 @@
 -- What the code keeps for the gain fits of a window: the two leaky series that no pole and no step is in, and their sums.
 -- Inner functions are stated by these; the fit itself is in Gain.antt.
-use Rattle.std.specs.Prelude.{◌≡◌, ℕ, min, List, fold, zip, Float, Option}
+use Rattle.std.specs.Prelude.{◌≡◌, ℕ, ◌<◌, min, List, fold, zip, Float, Option}
 use Rattle.std.specs.Float.{binary64}
 use Rattle.std.specs.Float.Ieee.{add, mul}
 use Rattle.float.specs.Values.{zero64, one64}
@@ -14,6 +14,10 @@ use Rattle.gain.specs.Gain.{regressor, change, through, solved}
 -- a series as the entries of a fill
 abbrev pub series : (ℕ → Float) → ℕ → List Float → Float
 series f k l = f k
+
+-- what a function answers at each of the first n places is x
+abbrev pub Adds : (ℕ → Float → Type 0) → ℕ → (ℕ → Float) → Type 0
+Adds answers n x = (i : ℕ) (y : Float) → i < n → answers i y → y ≡ x i
 
 -- the sum of the products of two lists, entry by entry, added left to right from +0
 abbrev pub products : List Float → List Float → Float

@@ -1,14 +1,14 @@
 // What gain fits are made of: the series and their leaky sums, what a window's fits share, and the solution of the six sums.
 #![tactic(auto)]
 
-ghost use Rattle.std.specs.Prelude.{◌≡◌, ◌-◌, ◌≤◌, min};
+ghost use Rattle.std.specs.Prelude.{◌≡◌, ℕ, ◌-◌, ◌<◌, ◌≤◌, min, Float};
 ghost use Rattle.std.specs.Int.{from_bool};
 ghost use Rattle.std.specs.Float.{binary32, binary64};
 ghost use Rattle.std.specs.Float.Ieee.{add, sub, mul};
 ghost use Rattle.float.specs.Values.{one32, one64};
 ghost use Rattle.float.specs.Series.{at, fill};
 ghost use Rattle.gain.specs.Gain.{first_tick, blend as blend_of, change, through, sound_fit, solved};
-ghost use Rattle.gain.specs.Prepared.{series, ticks_of, products, Prepared};
+ghost use Rattle.gain.specs.Prepared.{series, Adds, ticks_of, products, Prepared};
 
 // One gain fit.
 #[derive(Clone, Copy)]
@@ -101,30 +101,34 @@ pub fn blend(half: bool, newer: f64, older: f64) -> f64
     1.0 * newer + 0.0 * older
 }
 
-// The leaky sum of 1, tick by tick.
-#[tactic(auto, using(float::proofs::Fill::fill_front), unfolding(crate::specs::Gain::leaky, float::specs::Series::fill))]
+// The leaky sum of what is added at each tick, tick by tick.
+#[tactic(auto, unfolding(crate::specs::Gain::leaky, float::specs::Series::fill))]
+fn leaky_sums<F: Fn(usize) -> f64>(carry: f64, ticks: usize, sums: &mut [f64; 2048], added: F)
+    requires ticks { ticks ≤ 2048 }
+    requires callable { (i : ℕ) → i < ticks → F.pre added i }
+    ensures { (x : ℕ → Float) → Adds (F.post added) ticks x → sums.new ≡ fill (series (through carry x)) sums.old ticks }
+{
+    let mut sum = 0.0f64;
+    for (i, leaky) in sums[..ticks].iter_mut().enumerate() {
+        sum = carry * sum + added(i);
+        *leaky = sum;
+    }
+}
+
+// The leaky sum of 1.
 fn leaky_constants(carry: f64, ticks: usize, cs: &mut [f64; 2048])
     requires { ticks ≤ 2048 }
     ensures { cs.new ≡ fill (series (through carry (λ i. one64))) cs.old ticks }
 {
-    let mut sum = 0.0f64;
-    for c in cs[..ticks].iter_mut() {
-        sum = carry * sum + 1.0;
-        *c = sum;
-    }
+    leaky_sums(carry, ticks, cs, |_| 1.0);
 }
 
 // The leaky sum of the changes of the rate, from tick 11 on.
-#[tactic(auto, using(float::proofs::Fill::fill_front), unfolding(crate::specs::Gain::leaky, float::specs::Series::fill))]
 fn leaky_changes(rates: &[f32; 2048], carry: f64, ticks: usize, ts: &mut [f64; 2048])
     requires { ticks ≤ 2037 }
     ensures { ts.new ≡ fill (series (through carry (change (at rates.now)))) ts.old ticks }
 {
-    let mut sum = 0.0f64;
-    for (i, t) in ts[..ticks].iter_mut().enumerate() {
-        sum = carry * sum + f64::from(rates[11 + i] - rates[10 + i]);
-        *t = sum;
-    }
+    leaky_sums(carry, ticks, ts, |i| f64::from(rates[11 + i] - rates[10 + i]));
 }
 
 // ---- the sums

@@ -2,14 +2,13 @@
 #![tactic(auto)]
 
 ghost use Rattle.std.specs.Prelude.{◌≡◌};
-ghost use Rattle.float.specs.Series.{fill};
-ghost use Rattle.gain.specs.Gain.{step_count};
 ghost use Rattle.gain.specs.Prepared.{fit_of};
 ghost use Rattle.grid.specs.Grid.{lag_fit, candidate, better_of, keep_of};
-ghost use Rattle.grid.specs.Steps.{against, KeptTable};
+ghost use Rattle.grid.specs.Steps.{against, table_of, KeptTable};
 
 use gain::{FitInput, GainFit};
 use kernel::StepTable;
+use std::array;
 
 // A pole and the ends of the bracket around it.
 #[derive(Clone, Copy)]
@@ -71,13 +70,14 @@ fn keep(kept: Option<LagFit>, next: Option<LagFit>) -> Option<LagFit>
 }
 
 // What each step keeps, against its fit at one more pole.
-#[tactic(auto, using(float::proofs::Fill::fill_more), unfolding(float::specs::Series::fill))]
-fn keep_each(kept: &mut [Option<LagFit>; 20], bracket: Bracket, fits: [Option<GainFit>; 20])
-    ensures { kept.new ≡ fill (against bracket fits) kept.old step_count }
+fn keep_each(
+    kept: [Option<LagFit>; 20],
+    bracket: Bracket,
+    fits: [Option<GainFit>; 20],
+) -> [Option<LagFit>; 20]
+    ensures { result ≡ table_of (against bracket fits kept) }
 {
-    for (s, best) in kept.iter_mut().enumerate() {
-        *best = keep(*best, candidate(bracket, fits[s]));
-    }
+    array::from_fn(|s| keep(kept[s], candidate(bracket, fits[s])))
 }
 
 // What each step keeps of all poles, three of them at a time. The pole above the last is the last.
@@ -110,7 +110,8 @@ pub fn keep_poles(input: FitInput<'_>, dt_s: f32) -> [Option<LagFit>; 20]
             },
         ];
         for (q, bracket) in brackets.iter().enumerate() {
-            keep_each(&mut kept, *bracket, table.fits(q));
+            let next = keep_each(kept, *bracket, table.fits(q));
+            kept = next;
         }
         low = third;
         pole = high;

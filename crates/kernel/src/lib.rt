@@ -9,6 +9,7 @@ ghost use Rattle.lanes.specs.Lanes.{lane_count};
 ghost use Rattle.kernel.specs.Kernel.{lane, one_on, lanes_on, reached_of, block_on, HasSums, table_fits, step_fits};
 
 use gain::{FitInput, GainFit, Shared, StepSums};
+use std::array;
 
 // The running values of the six lanes of a whole tick side by side: m, and the three sums that it is in.
 // Four arrays: an array of six structs takes 1.35 times as long, since the compiler no longer packs two lanes in a register.
@@ -21,22 +22,29 @@ pub struct LaneSums {
 }
 
 impl LaneSums {
+    // The sums of lane h.
+    fn lane(&self, h: usize) -> StepSums
+        requires { h < lane_count }
+        ensures { let s = lane self.now h in result ≡ record { mm = s.mm; mc = s.mc; mt = s.mt } }
+    {
+        StepSums {
+            mm: self.mm[h],
+            mc: self.mc[h],
+            mt: self.mt[h],
+        }
+    }
+
     // With one tick more of six lanes, beside the values of the two leaky series.
     fn plus(self, carry: f64, tick: &[f64; 6], c: f64, t: f64) -> LaneSums
         ensures { (h : ℕ) → h < lane_count → lane result h ≡ one_on carry (at tick.now h) c t (lane self h) }
     {
-        let mut m = self.m;
-        let mut mm = self.mm;
-        let mut mc = self.mc;
-        let mut mt = self.mt;
-        for (h, x) in tick.iter().enumerate() {
-            let next = carry * m[h] + *x;
-            m[h] = next;
-            mm[h] = mm[h] + next * next;
-            mc[h] = mc[h] + next * c;
-            mt[h] = mt[h] + next * t;
+        let m: [f64; 6] = array::from_fn(|h| carry * self.m[h] + tick[h]);
+        LaneSums {
+            m,
+            mm: array::from_fn(|h| self.mm[h] + m[h] * m[h]),
+            mc: array::from_fn(|h| self.mc[h] + m[h] * c),
+            mt: array::from_fn(|h| self.mt[h] + m[h] * t),
         }
-        LaneSums { m, mm, mc, mt }
     }
 }
 
@@ -114,7 +122,7 @@ fn sum_places(input: FitInput<'_>, poles: [f32; 3]) -> [LaneSums; 10]
     let mut sums = [none; 10];
     let mut ticks = [[0.0f64; 6]; 128];
     let mut lagged = [0.0f32; 3];
-    for b in 0..(n + 138) / 128 {
+    for b in 0..(n + 11).div_ceil(128) {
         let tick = b * 128;
         let next = lanes::lag_block(input.moments, poles, lagged, b, n + 11 - tick, &mut ticks);
         for (d, sum) in sums.iter_mut().enumerate() {
@@ -144,21 +152,10 @@ impl StepTable {
     }
 
     // The fits of pole q at all steps, each from the sums of a lane of its whole ticks. A pole above the last of three is read as the last.
-    #[tactic(auto, using(float::proofs::Fill::fill_more), unfolding(float::specs::Series::fill))]
     pub fn fits(&self, q: usize) -> [Option<GainFit>; 20]
         ensures { result ≡ table_fits self.now (min q 2) }
     {
         let pole = q.min(2);
-        let mut fits = [None; 20];
-        for (s, fit) in fits.iter_mut().enumerate() {
-            let lanes = &self.sums[s / 2];
-            let h = pole * 2 + s % 2;
-            *fit = self.shared.solve(StepSums {
-                mm: lanes.mm[h],
-                mc: lanes.mc[h],
-                mt: lanes.mt[h],
-            });
-        }
-        fits
+        array::from_fn(|s| self.shared.solve(self.sums[s / 2].lane(pole * 2 + s % 2)))
     }
 }

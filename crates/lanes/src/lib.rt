@@ -9,39 +9,26 @@ ghost use Rattle.float.specs.Series.{at};
 ghost use Rattle.gain.specs.Gain.{blend};
 ghost use Rattle.lanes.specs.Lanes.{each_pole, each_lane, block_ticks, last_block, block_moments, Block};
 
+use std::array;
+
 // One moment through three lags. Side by side they do not wait for each other.
 fn lags_on(poles: [f32; 3], lagged: [f32; 3], moment: f32) -> [f32; 3]
     ensures { result ≡ each_pole (λ q. add binary32 (mul binary32 (at poles q) (at lagged q)) (mul binary32 (sub binary32 one32 (at poles q)) moment)) }
 {
-    [
-        gain::lag_on(poles[0], lagged[0], moment),
-        gain::lag_on(poles[1], lagged[1], moment),
-        gain::lag_on(poles[2], lagged[2], moment),
-    ]
+    array::from_fn(|q| gain::lag_on(poles[q], lagged[q], moment))
 }
 
 fn widened(lagged: [f32; 3]) -> [f64; 3]
     ensures { result ≡ each_pole (at lagged) }
 {
-    [
-        f64::from(lagged[0]),
-        f64::from(lagged[1]),
-        f64::from(lagged[2]),
-    ]
+    lagged.map(f64::from)
 }
 
 // The six lanes of a tick, from three lags once they have its moment and as they were before.
 fn tick_lanes(newer: [f64; 3], older: [f64; 3]) -> [f64; 6]
     ensures { result ≡ each_lane (λ h. blend (h % 2) (at newer (h / 2)) (at older (h / 2))) }
 {
-    [
-        gain::blend(false, newer[0], older[0]),
-        gain::blend(true, newer[0], older[0]),
-        gain::blend(false, newer[1], older[1]),
-        gain::blend(true, newer[1], older[1]),
-        gain::blend(false, newer[2], older[2]),
-        gain::blend(true, newer[2], older[2]),
-    ]
+    array::from_fn(|h| gain::blend(h % 2 == 1, newer[h / 2], older[h / 2]))
 }
 
 // A block of moments through three lags at once, as the regressors of three poles: six lanes a tick, for each pole its whole ticks and then its half ticks.

@@ -15,19 +15,19 @@ const LATEST_S: f32 = 4096.0;
 
 const MOST_TICKS: u32 = 16_777_216;
 
-// The rules, by what breaks them. The form is the sizes of a run's slices, and the options of an opening.
+// The rules, each with its number, by what breaks them. The form is the sizes of a run's slices, and the options of an opening.
 #[derive(Clone, Copy, PartialEq, Eq)]
 pub enum Rule {
-    Amplitude,
-    Duration,
-    Washout,
-    ExtensionAmplitude,
-    ExtensionDuration,
-    Dt,
-    Elapsed,
-    Ticks,
-    Form,
-    UnevenDt,
+    Amplitude = 1,
+    Duration = 2,
+    Washout = 3,
+    ExtensionAmplitude = 4,
+    ExtensionDuration = 5,
+    Dt = 6,
+    Elapsed = 7,
+    Ticks = 8,
+    Form = 9,
+    UnevenDt = 10,
 }
 
 impl Rule {
@@ -36,18 +36,7 @@ impl Rule {
     pub fn number(self) -> u32
         ensures { result ≡ number_of self }
     {
-        match self {
-            Rule::Amplitude => 1,
-            Rule::Duration => 2,
-            Rule::Washout => 3,
-            Rule::ExtensionAmplitude => 4,
-            Rule::ExtensionDuration => 5,
-            Rule::Dt => 6,
-            Rule::Elapsed => 7,
-            Rule::Ticks => 8,
-            Rule::Form => 9,
-            Rule::UnevenDt => 10,
-        }
+        self as u32
     }
 }
 
@@ -86,12 +75,6 @@ fn is_bad_duration(x: f32) -> bool
     !is_positive(x) | (x > LONGEST_S)
 }
 
-fn is_bad_time(x: f32) -> bool
-    ensures { result ≡ not (positive x) }
-{
-    !is_positive(x)
-}
-
 #[tactic(auto, unfolding(account::specs::Rules::too_long), using(crate::proofs::Limits::longest))]
 fn is_bad_extension(x: f32, duration_s: f32) -> bool
     ensures { result ≡ (not (finite x) || lt x duration_s || too_long x) }
@@ -110,7 +93,7 @@ pub fn validate(config: IdentifyConfig) -> Result<(), Rule>
     if is_bad_duration(config.duration_s) {
         return Err(Rule::Duration);
     }
-    if is_bad_time(config.washout_tc_s) {
+    if !is_positive(config.washout_tc_s) {
         return Err(Rule::Washout);
     }
     let Some(extension) = config.noisy else {
@@ -146,7 +129,7 @@ fn validate_running(elapsed_s: f32, ticks: u32, dt: f32) -> Result<(), Rule>
 pub fn validate_call(clock: Option<f32>, ticks: u32, dt: f32) -> Result<(), Rule>
     ensures { numbered result ≡ refusal clock ticks dt }
 {
-    if is_bad_time(dt) {
+    if !is_positive(dt) {
         return Err(Rule::Dt);
     }
     let Some(elapsed_s) = clock else {

@@ -13,12 +13,6 @@ held : (n : ℕ) → n ≤ 2 ^ 53 → T (in_float binary64 (pos n))
 unfolding in_float
 held n h = le→leb n (2 ^ 53) h
 
-pub overflow_cast-digits : goal.overflow_cast-digits
-overflow_cast-digits c = omega (arith, leading_le 64 c.args.m)
-
-pub overflow_sub-digits : goal.overflow_sub-digits
-overflow_sub-digits c = leading_le 64 c.args.m
-
 pub overflow_shl-top : goal.overflow_shl-top
 overflow_shl-top c = let k = counted c.args.m c.requires.0 c.requires.1 in omega arith
 

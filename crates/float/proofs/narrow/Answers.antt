@@ -16,9 +16,6 @@ pub returns-then-is_nan : goal.returns-then-is_nan
 unfolding of_bits
 returns-then-is_nan c = sym (ap narrowed (only_nan c.args.x (sym c.is_nan.ensures.value ∙ c.if-is_nan.true)) ∙ narrowed_nan)
 
-pub packed-requires : goal.packed-requires
-packed-requires c = (lit≤ tt, lit< tt, inr (lit≤ tt))
-
 pub returns-then-exponent-eq2047 : goal.returns-then-exponent-eq2047
 returns-then-exponent-eq2047 c =
     let x = c.args.x in

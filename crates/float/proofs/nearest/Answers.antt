@@ -12,28 +12,13 @@ use Rattle.float.proofs.nearest.Goals.{Else-m-eq0}
 known : (c : Else-m-eq0) → Moved c.args.m
 known c = moved c.args.m c.requires.0 c.if-m-eq0.false
 
-pub packed-requires : goal.packed-requires
-packed-requires c = (lit≤ tt, lit< tt, inl refl)
-
 pub returns-then-m-eq0 : goal.returns-then-m-eq0
 returns-then-m-eq0 c =
     let a = c.args in
     c.packed.ensures ∙ sym (nothing a.negative a.m a.e c.if-m-eq0.true)
 
-pub overflow_cast-zeros : goal.overflow_cast-zeros
-overflow_cast-zeros c = omega (arith, leading_le 64 c.args.m)
-
 pub overflow_sub-n : goal.overflow_sub-n
 overflow_sub-n c = (known (goal.at.overflow_sub-n c).Else-m-eq0).some
-
-pub overflow_shl-n : goal.overflow_shl-n
-overflow_shl-n c = omega (arith, leading_le 64 c.args.m)
-
-pub overflow_sub-w : goal.overflow_sub-w
-overflow_sub-w c = omega (arith, (known (goal.at.overflow_sub-w c).Else-m-eq0).not_all)
-
-pub packed-requires-then-w-lt924 : goal.packed-requires-then-w-lt924
-packed-requires-then-w-lt924 c = (lit≤ tt, lit< tt, inl refl)
 
 pub returns-then-w-lt924 : goal.returns-then-w-lt924
 returns-then-w-lt924 c =

@@ -19,12 +19,6 @@ returns-then-m-eq0 c =
     let a = c.args in
     root_of_zero (a.m * 2 ^ a.e) (ap (λ (x : ℕ). x * 2 ^ a.e) c.if-m-eq0.true ∙ zero-mul (2 ^ a.e))
 
-pub overflow_cast-digits : goal.overflow_cast-digits
-overflow_cast-digits c = omega (arith, leading_le 64 c.args.m)
-
-pub overflow_sub-digits : goal.overflow_sub-digits
-overflow_sub-digits c = leading_le 64 c.args.m
-
 pub overflow_sub-n : goal.overflow_sub-n
 overflow_sub-n c = omega (arith, (known (goal.at.overflow_sub-n c).Else-m-eq0).even)
 
@@ -44,9 +38,6 @@ digits_24 c =
 
 k_lt : (m e : ℕ) → e < 2 ^ 9 → k_of m e < 2 ^ 11
 k_lt m e h = omega arith
-
-pub overflow_add-whole : goal.overflow_add-whole
-overflow_add-whole c = omega (arith, (digits_24 (goal.at.overflow_add-whole c).After-whole_root-whole).1)
 
 pub packed-requires : goal.packed-requires
 packed-requires c =

@@ -9,32 +9,17 @@ use Rattle.float.proofs.to_nearest.Goals as goal
 small : (m j : ℕ) → j < 64 → (m % 2 ^ j < 2 ^ j) × (2 ^ j ≤ 2 ^ 63)
 small m j h = (mod-lt m (pow_pos j), pow_mono (let r : j ≤ 63 = omega arith in r))
 
-pub overflow_sub-twice : goal.overflow_sub-twice
-overflow_sub-twice c = omega (arith, unit c.args.j c.requires.1, pow_pos c.args.j)
-
-pub overflow_mul-twice : goal.overflow_mul-twice
-overflow_mul-twice c =
-    let a = c.args in
-    let l = c.requires.1 in
-    omega (arith, rest a.m a.j l, (small a.m a.j l).0, (small a.m a.j l).1)
-
 pub returns-then-twice-unit : goal.returns-then-twice-unit
 returns-then-twice-unit c =
     let a = c.args in
     let l = c.requires.1 in
     sym (closest_down a.m (2 ^ a.j) (omega (arith, rest a.m a.j l, unit a.j l)))
 
-pub overflow_add-result : goal.overflow_add-result
-overflow_add-result c = omega (arith, shr_le c.args.m c.args.j)
-
 pub returns-then-unit-twice : goal.returns-then-unit-twice
 returns-then-unit-twice c =
     let a = c.args in
     let l = c.requires.1 in
     sym (closest_up a.m (2 ^ a.j) (omega (arith, rest a.m a.j l, unit a.j l)))
-
-pub overflow_add-result-2 : goal.overflow_add-result-2
-overflow_add-result-2 c = omega (arith, shr_le c.args.m c.args.j)
 
 pub returns : goal.returns
 returns c =

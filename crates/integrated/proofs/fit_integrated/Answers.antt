@@ -11,10 +11,6 @@ returns-then-n-le12 c =
     let e : length (take n a.rates.now) ≡ n = length-take-le n a.rates.now (rw c.told-rates (omega arith)) in
     rw (← c.stored-n.ensures) (c.no_model.ensures ∙ short a.rates.now a.moments.now a.duration_s n e c.if-n-le12.true)
 
-pub int_to_float-n : goal.int_to_float-n
-unfolding in_float
-int_to_float-n c = rw (le-leb c.stored-n.result (2 ^ 24) (omega arith)) tt
-
 pub returns : goal.returns
 returns c =
     let a = c.args in

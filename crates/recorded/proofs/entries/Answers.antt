@@ -3,7 +3,7 @@ use Rattle.std.proofs.Common.{rules, List, Option, ℕ, ◌+◌, ◌≡◌, ◌�
 use Rattle.std.proofs.lemmas.List.{get_or_past}
 use lib.ListN.{replicate, get_or}
 use Rattle.float.specs.Series.{fill}
-use Rattle.float.proofs.Made.{made}
+use Rattle.float.proofs.Made.{made_new}
 use Rattle.least_squares.specs.declared.Solution.{Solution}
 use Rattle.recorded.specs.Classify.{entry_of, entries}
 use Rattle.recorded.proofs.entries.Goals as goal
@@ -19,5 +19,5 @@ module _ (fits : List (Option Solution)) (l : length fits ≡ 10) where
 pub returns : goal.returns
 unfolding entry_of
 returns c =
-    made _ _ (λ k. entry_of (get_or c.args.fits k None)) (search rules) c.from_fn.result (replicate 20 None) 20 None refl c.from_fn.ensures.items
+    made_new _ _ (λ k. entry_of (get_or c.args.fits k None)) (search rules) c.from_fn.result 20 None c.from_fn.ensures.items
     ∙ ten_of_twenty c.args.fits (search rules)

@@ -8,17 +8,9 @@ use lib.Ieee.{in_float}
 use Rattle.sweep.specs.Sweep.{half_period}
 use Rattle.sweep.proofs.half_period_s.Goals as goal
 
-pub int_to_float-result : goal.int_to_float-result
-unfolding in_float
-int_to_float-result c = le→leb c.args.index 16777216 (omega arith)
-
 pub returns-then-index-lt9 : goal.returns-then-index-lt9
 unfolding half_period
 returns-then-index-lt9 c = simp (lt-ltb c.args.index 9 c.if-index-lt9.true)
-
-pub int_to_float-result-2 : goal.int_to_float-result-2
-unfolding in_float
-int_to_float-result-2 c = le→leb ((c.args.index - 9) % 5) 16777216 (omega (arith, mod-lt (c.args.index - 9) {m = 5} (lit< tt)))
 
 pub returns : goal.returns
 unfolding half_period

@@ -4,7 +4,7 @@ use lib.ListN.{replicate}
 use lib.Ieee.{of_bits, sub, nan}
 use Rattle.float.specs.Values.{zero32}
 use Rattle.float.specs.Series.{at}
-use Rattle.float.proofs.Made.{made}
+use Rattle.float.proofs.Made.{made_new}
 use Rattle.rows.specs.Rows.{target}
 use Rattle.shared_sums.specs.Shared.{common_terms, last_moments}
 use Rattle.shared_sums.proofs.Row.of_tick.Goals as goal
@@ -16,4 +16,4 @@ returns-clause-terms c = refl
 pub returns-clause-moments : goal.returns-clause-moments
 unfolding last_moments
 returns-clause-moments c =
-    made _ _ (λ j. at c.args.moments.now (c.args.k - j)) (search rules) c.from_fn.result (replicate 12 zero32) 12 nan refl c.from_fn.ensures.items
+    made_new _ _ (λ j. at c.args.moments.now (c.args.k - j)) (search rules) c.from_fn.result 12 zero32 c.from_fn.ensures.items
