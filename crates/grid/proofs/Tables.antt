@@ -8,7 +8,7 @@ use Rattle.float.specs.Series.{at, fill}
 use Rattle.lags.specs.Lags.{lag_count, pole_of}
 use Rattle.gain.specs.declared.GainFit.{GainFit}
 use Rattle.gain.specs.Gain.{step_count}
-use Rattle.float.proofs.Fill.{length_fill, filled, fill_same}
+use Rattle.float.proofs.Fill.{length_fill, filled, unfilled}
 use Rattle.kernel.specs.Kernel.{step_fits}
 use Rattle.grid.specs.declared.Bracket.{Bracket}
 use Rattle.grid.specs.declared.LagFit.{LagFit}
@@ -30,9 +30,15 @@ table_first dt fit kept e = record { is = e; first = λ s p. rw (e, table_at (ke
 -- one more pole against a table is a table, step by step
 table_against : (b : Bracket) (fits : List (Option GainFit)) (kept next : ℕ → Option LagFit)
     → ((s : ℕ) → s < step_count → keep_of (kept s) (candidate b (get_or fits s None)) ≡ next s)
-    → table_of (against b fits (table_of kept)) ≡ table_of next
+    → fill (against b fits) (table_of kept) step_count ≡ table_of next
 table_against b fits kept next e =
-    fill_same _ _ (replicate step_count None) step_count (λ s l p. ap (λ (k : Option LagFit). keep_of k (candidate b (get_or fits s None))) (table_at kept s p) ∙ e s p)
+    let f = against b fits in let l = table_of kept in
+    let long : length (fill f l step_count) ≡ step_count = length_fill f l step_count ∙ table_long kept in
+    ext_get_or None (fill f l step_count) (table_of next) (long ∙ sym (table_long next)) (λ s p.
+    let h : s < step_count = rw long at p in
+    filled f l None step_count s (rw (table_long kept) (omega arith)) h
+    ∙ ap (λ (k : Option LagFit). keep_of k (candidate b (get_or fits s None))) (unfilled f l None s s (omega arith) ∙ table_at kept s h)
+    ∙ e s h ∙ sym (table_at next s h))
 
 -- the pole above, by its place
 above : (pole : ℕ → Float) (last i : ℕ) → i ≤ last → high_end pole last i ≡ pole (min (i + 1) last)
@@ -93,7 +99,7 @@ module _ (dt : Float) (fit : ℕ → Float → Option GainFit) where
   -- what one more pole leaves of the table
   pub pole_more : (i : ℕ) (fits : List (Option GainFit)) (b : Bracket) (kept : List (Option LagFit))
       → b ≡ bracket_of (pole_of dt) lag_count i → fits ≡ step_fits fit b.pole → kept ≡ table_of (kept_below dt fit i)
-      → table_of (against b fits kept) ≡ table_of (kept_below dt fit (suc i))
+      → fill (against b fits) kept step_count ≡ table_of (kept_below dt fit (suc i))
   unfolding kept_to
   pole_more i fits b kept p f k =
       rw k (table_against b fits _ _ (λ s y.

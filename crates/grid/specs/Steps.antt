@@ -13,8 +13,8 @@ abbrev pub kept_below : Float → (ℕ → Float → Option GainFit) → ℕ →
 kept_below dt fit i s = kept_to (candidates (pole_of dt) lag_count (fit s)) i
 
 -- what a step keeps by a table, against its fit at one more pole
-abbrev pub against : Bracket → List (Option GainFit) → List (Option LagFit) → ℕ → Option LagFit
-against b fits kept s = keep_of (get_or kept s None) (candidate b (get_or fits s None))
+abbrev pub against : Bracket → List (Option GainFit) → ℕ → List (Option LagFit) → Option LagFit
+against b fits s kept = keep_of (get_or kept s None) (candidate b (get_or fits s None))
 
 -- what each step keeps, as a list
 abbrev pub table_of : (ℕ → Option LagFit) → List (Option LagFit)

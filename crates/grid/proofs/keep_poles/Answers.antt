@@ -28,7 +28,7 @@ loop-q-preserved c =
     let e : i * 3 + (q + 1) ≡ suc (i * 3 + q) = omega arith in
     let p : q < 3 = omega arith in
     let last : min q 2 ≡ q = omega arith in
-    rw e (c.keep_each-next.ensures
+    rw e (c.keep_each.ensures
     ∙ pole_more dt fit (i * 3 + q) c.fits.result _ c.loop-q.kept (bracket_is dt i _ _ _ _ _ poles (omega arith) _ q p)
     (rw last at c.fits.ensures ∙ c.new-table.ensures q p ∙ ap (step_fits fit) (pole_is dt i _ _ _ _ _ poles (omega arith) _ q p)) c.loop-q.invariant)
 
