@@ -17,6 +17,9 @@ use golden::Refined;
 use grid::LagFit;
 use position::Position;
 
+// The gain fits of the grid: 20 at each of 129 poles.
+const GRID_FITS: u32 = 2580;
+
 // The integrated fit of a window, where it has one, and the gain fits made for it.
 #[derive(Clone, Copy)]
 pub struct IntegratedFit {
@@ -55,7 +58,7 @@ fn model(b: LagFit, position: Position, dt_s: f32) -> RateModel
     }
 }
 
-// The model of a refined candidate. The gain fits: 20 at each of 129 poles, and two a round.
+// The model of a refined candidate. The gain fits: those of the grid, and two a round.
 #[tactic(auto, unfolding(crate::specs::Integrated::modelled))]
 fn modelled(r: Refined, position: Position, dt_s: f32) -> IntegratedFit
     requires { r.rounds ≤ max_rounds }
@@ -63,7 +66,7 @@ fn modelled(r: Refined, position: Position, dt_s: f32) -> IntegratedFit
 {
     IntegratedFit {
         model: Some(model(r.best, position, dt_s)),
-        gain_fits: 2580 + 2 * r.rounds,
+        gain_fits: GRID_FITS + 2 * r.rounds,
     }
 }
 
@@ -108,7 +111,7 @@ fn choose(
 {
     let step = position.step();
     let Some(b) = kept[step] else {
-        return no_model(2580);
+        return no_model(GRID_FITS);
     };
     modelled(golden::refine(input, step, b), position, dt_s)
 }
@@ -120,12 +123,12 @@ fn search(input: FitInput<'_>, dt_s: f32) -> IntegratedFit
     let kept = grid::keep_poles(input, dt_s);
     let position = delay::delay_to_fit(entries(kept), 0.0);
     match position {
-        None => no_model(2580),
+        None => no_model(GRID_FITS),
         Some(place) => choose(input, dt_s, kept, Position { place }),
     }
 }
 
-// The fit of a window of n ticks. Asked of more than 12 only.
+// The fit of a window of n ticks, eleven of which come before the first that is fitted.
 fn fit_long(rates: &[f32; 2048], moments: &[f32; 2048], n: usize, dt_s: f32) -> IntegratedFit
     requires { (first_tick ≤ n) × (n ≤ 2048) }
     ensures { result ≡ searched dt_s (window_fit rates.now moments.now dt_s n) }
@@ -143,7 +146,8 @@ fn fit_long(rates: &[f32; 2048], moments: &[f32; 2048], n: usize, dt_s: f32) -> 
     search(input, dt_s)
 }
 
-// The integrated fit of the first len rates and moments.
+// The integrated fit of the first len rates and moments. Array by array: a proof knows an array's length behind a reference that is a parameter, and not
+// behind a field of `Readings`.
 pub fn fit_integrated(
     rates: &[f32; 2048],
     moments: &[f32; 2048],
