@@ -10,7 +10,7 @@ ghost use Rattle.window.specs.Lent.{Leaves, arrays_in, put_sample};
 const CAPACITY: usize = 2048;
 
 // How many samples are stored, and the sum of their dt.
-#[derive(Clone, Copy)]
+#[derive(Clone, Copy, Default)]
 pub struct Window {
     pub len: usize,
     pub duration_s: f32,
@@ -20,10 +20,7 @@ impl Window {
     pub fn new() -> Self
         ensures { result ≡ record { len = 0; duration_s = zero32 } }
     {
-        Window {
-            len: 0,
-            duration_s: 0.0,
-        }
+        Window::default()
     }
 
     // The stored samples: never more than the arrays hold, whatever the struct says.
