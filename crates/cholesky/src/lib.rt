@@ -9,6 +9,7 @@ ghost use Rattle.cholesky.specs.ColumnOrder.{Factored, Tested};
 pub type Columns = [[f32; 6]; 6];
 
 // ---- the factor
+// A row i and a column j below 6 are asked for where they are read: the definitions name them so, and a struct of the two would be taken apart at each use.
 
 // Entry (i, j) less the columns of L before j.
 fn reduced_entry(l: &Columns, i: usize, j: usize, start: f32) -> f32

@@ -65,7 +65,7 @@ impl Delay {
         self.half_ticks / 2
     }
 
-    // 1 where half a tick is left past the whole ones, else 0.
+    // 1 where half a tick is left past the whole ones, else 0: a number, as a report's bit and C's field have it.
     pub fn half_tick(self) -> u32
         ensures { result ≡ half_tick self }
     {
@@ -86,6 +86,7 @@ fn considered(all: bool, entry: Option<Entry>) -> Option<f32>
     }
 }
 
+// Tried as `reduce(float::min)` over what is considered: no law tells what `reduce` makes of a function that is handed to it.
 #[tactic(auto, unfolding(crate::specs::Tie::lesser))]
 fn lesser(a: Option<f32>, b: Option<f32>) -> Option<f32>
     ensures { result ≡ lesser_of a b }

@@ -73,7 +73,8 @@ impl StepSums {
     }
 }
 
-// What the gain fits of a window read: its moments, the leaky series of 1 and of the changes, and what the fits share.
+// What the gain fits of a window read: its moments, the leaky series of 1 and of the changes, and what the fits share. Two series,
+// as the definitions have them: each is filled, and summed with itself and with the other, as a series of its own.
 #[derive(Clone, Copy)]
 pub struct FitInput<'a> {
     pub moments: &'a [f32; 2048],

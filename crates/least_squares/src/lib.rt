@@ -26,6 +26,7 @@ pub struct Solution {
     pub residual: f32,
 }
 
+// `gain::dot` is the same of f64, and says why it stands apart.
 fn dot_product(x: &[f32; 6], y: &[f32; 6]) -> f32
     ensures { result ≡ fold (λ (s : Float) (p : Float × Float). add binary32 s (mul binary32 p.0 p.1)) zero32 (zip x.now y.now) }
 {

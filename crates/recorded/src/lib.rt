@@ -93,6 +93,7 @@ fn solve_delays(shared: SharedSums) -> [Option<Solution>; 10]
     std::array::from_fn(|k| solve_delay(shared, k))
 }
 
+// A solution's moments summed are its effect. `units` sums a model's: one function of three numbers would be longer than the two lines.
 #[tactic(auto, unfolding(crate::specs::Classify::entry_of, crate::specs::Classify::effect_of))]
 fn entry(solved: Option<Solution>) -> Option<Entry>
     ensures { result ≡ entry_of solved }
@@ -105,7 +106,7 @@ fn entry(solved: Option<Solution>) -> Option<Entry>
     })
 }
 
-// The entries of the tie rule, of which the last ten are missing.
+// The entries of the tie rule, of which the last ten are missing. `integrated` has twenty fits of another type: what the two share is a map of one line.
 fn entries(fits: [Option<Solution>; 10]) -> [Option<Entry>; 20]
     ensures { result ≡ entries_of (λ k. get_or fits k None) }
 {

@@ -36,7 +36,7 @@ struct Row {
 // ---- a row's products
 
 impl Row {
-    // The row of tick k.
+    // The row of tick k, which has eleven ticks before it and stands in the arrays; a number, as the loop over a window's ticks has it.
     fn of_tick(rates: &[f32; 2048], moments: &[f32; 2048], k: usize) -> Self
         requires { (11 ≤ k) × (k < 2048) }
         ensures terms { result.terms ≡ common_terms rates.now k }

@@ -91,7 +91,7 @@ impl SquareSweep {
         }
     }
 
-    // Every edge up to the elapsed time is passed.
+    // Every edge up to the elapsed time is passed. A `while`: how many are due shows only as they are passed.
     fn pass_edges(self, elapsed_s: f32) -> Self
         ensures { result ≡ pass_edges elapsed_s self }
     {

@@ -32,7 +32,8 @@ impl Window {
     }
 }
 
-// The arrays that a caller lends with a window: place k of each is sample k's.
+// The arrays that a caller lends with a window: place k of each is sample k's. Four arrays, and their length apart in `Window`: C has
+// them one by one, and by value a struct of them would be copied at each tick, 26 KB.
 #[derive(Drop)]
 pub struct LentArrays<'a> {
     pub rates: &'a mut [f32; 2048],
