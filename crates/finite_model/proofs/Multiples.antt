@@ -16,7 +16,7 @@ use lib.Ieee.Order.{round_mono, kept, drop}
 use lib.Ieee.Scale.{grid, round_val, round_same}
 use Rattle.float.specs.Values.{finite}
 use Rattle.float.proofs.Between.{under, no_inf}
-use Rattle.float.proofs.Digits.{lt_or_ge}
+use Rattle.std.proofs.lemmas.Bool.{cases_lt}
 use Rattle.float.proofs.ExpUnit.{zero_exponent}
 use Rattle.float.proofs.Signs.{Signed}
 use Rattle.finite_model.specs.FiniteModel.{FiniteF32}
@@ -151,7 +151,7 @@ module _ (A B c a b : ℕ) (C : 0 < c) (p : A * U ≡ a * c) (q : B * U ≡ b * 
       ⊎_elim
       (λ (h : a < b). lt-ltb A B (lt_of_mul-lt-mul_right U (subst (λ (x : ℕ). x < B * U) (sym p) (subst (λ (x : ℕ). a * c < x) (sym q) (mul-lt-mul_of_pos_right h C)))) ∙ sym (lt-ltb a b h))
       (λ (h : b ≤ a). le-ltb A B (le_of_mul-le-mul_right (le_trans (le_of_eq q) (le_trans (mul-le-mul_right c h) (le_of_eq (sym p)))) (pow_pos 149)) ∙ sym (le-ltb a b h))
-      (lt_or_ge a b)
+      (cases_lt a b)
 
   plus : (s : Bool) → round binary32 s (A + B) c ≡ round binary32 s (a + b) U
   plus s = round_same binary32 s (A + B) c (a + b) U C (pow_pos 149) (add-mul A B U ∙ ap (λ (x : ℕ). x + B * U) p ∙ ap (λ (x : ℕ). a * c + x) q ∙ sym (add-mul a b c))

@@ -11,7 +11,8 @@ use lib.Ieee.{Float, binary32, of_bits, size, round, sub, mul, neg, unlike}
 use lib.Ieee.Digits.{size_reaches}
 use lib.Ieee.Fits.{kept-lt}
 use lib.Ieee.Scale.{grid}
-use Rattle.float.proofs.Digits.{lt_or_ge, size_gt}
+use Rattle.float.proofs.Digits.{size_gt}
+use Rattle.std.proofs.lemmas.Bool.{cases_lt}
 use Rattle.golden.specs.Golden.{golden32, left_of, right_of}
 use Rattle.finite_model.proofs.Multiples.{U, Of, Held, own, held_of, grid_under, grid_le, round_of, add_plus, add_minus, add_under, neg_of, mul_is, Within, whole_within}
 
@@ -75,7 +76,7 @@ module _ (n t w : ℕ) (most : n ≤ U) (low : w * 2 ^ t ≤ n) (high : n ≤ su
 
 -- 0.618034 of a difference, with both roundings, is at most the difference
 part_under : (n : ℕ) → n ≤ U → part n ≤ n
-part_under n most = ⊎_elim (λ (h : n < 2 ^ 24). part_few n h) (λ (h : 2 ^ 24 ≤ n). long h) (lt_or_ge n (2 ^ 24))
+part_under n most = ⊎_elim (λ (h : n < 2 ^ 24). part_few n h) (λ (h : 2 ^ 24 ≤ n). long h) (cases_lt n (2 ^ 24))
   where
     long : 2 ^ 24 ≤ n → part n ≤ n
     long h =
@@ -161,7 +162,7 @@ within lo hi x h r = record { count = r.count; is = r.is; held = r.held; from = 
 
 -- trials between two ends in 0 to 1 are in 0 to 1
 pub trials : (low high : Float) → ZeroToOne low → ZeroToOne high → Trials 0 U low high
-trials low high p q = ⊎_elim down up (lt_or_ge q.count p.count)
+trials low high p q = ⊎_elim down up (cases_lt q.count p.count)
   where
     wide : (lo hi : ℕ) → hi ≤ U → Trials lo hi low high → Trials 0 U low high
     wide lo hi h r = record { left = within lo hi (left_of low high) h r.left; right = within lo hi (right_of low high) h r.right }

@@ -6,7 +6,8 @@ use lib.Ieee.Digits.{size-le}
 use lib.Ieee.Exact.{HasValue, units_val}
 use lib.Ieee.Fits.{odd-fits, inf-fits, down_pos}
 use lib.Ieee.Bits.{of_bits-to_bits, nan_bits_is, cond_no, is_true}
-use Rattle.float.proofs.Digits.{lt_or_ge, size_is}
+use Rattle.float.proofs.Digits.{size_is}
+use Rattle.std.proofs.lemmas.Bool.{cases_lt}
 
 -- ---- the fields of n smallest values
 fields : ℕ → ℕ
@@ -76,7 +77,7 @@ pattern_of (fin t m e) s a v =
 in_range : (q k : ℕ) → q ≤ 2 ^ 24 → (k ≡ 0) ⊎ (2 ^ 23 ≤ q) → k * 0x80_0000 + q < 0x7f80_0000 → q * 2 ^ k < 2 ^ 277
 in_range q k h w l =
     ⊎_elim (λ (z : k ≡ 0). subst (λ (x : ℕ). q * 2 ^ x < 2 ^ 277) (sym z) (lt_of_le_of_lt (le_of_eq (mul-one q)) (lt_of_le_of_lt h (lit< tt))))
-    (λ (g : 2 ^ 23 ≤ q). by_size g (lt_or_ge q (2 ^ 24)))
+    (λ (g : 2 ^ 23 ≤ q). by_size g (cases_lt q (2 ^ 24)))
     w
   where
     by_size : 2 ^ 23 ≤ q → (q < 2 ^ 24) ⊎ (2 ^ 24 ≤ q) → q * 2 ^ k < 2 ^ 277
@@ -84,7 +85,7 @@ in_range q k h w l =
     by_size g (inr a) = lt_of_lt_of_le (shl_lt 25 k (let r : q < 2 ^ 25 = omega arith in r)) (pow_mono (let r : 25 + k ≤ 277 = omega arith in r))
 
 out_of_range : (q k : ℕ) → q ≤ 2 ^ 24 → (k ≡ 0) ⊎ (2 ^ 23 ≤ q) → 0x7f80_0000 ≤ k * 0x80_0000 + q → 2 ^ 277 ≤ q * 2 ^ k
-out_of_range q k h w l = ⊎_elim (λ (z : k ≡ 0). absurd (none z)) (λ (g : 2 ^ 23 ≤ q). by_size g (lt_or_ge k 254)) w
+out_of_range q k h w l = ⊎_elim (λ (z : k ≡ 0). absurd (none z)) (λ (g : 2 ^ 23 ≤ q). by_size g (cases_lt k 254)) w
   where
     none : k ≡ 0 → ⊥
     none z = omega arith
@@ -119,7 +120,7 @@ fin_bits s q k h w l =
     ∙ of_bits-to_bits binary32 v fit
 
 pub pattern : (s : Bool) (q k p : ℕ) → q ≤ 2 ^ 24 → (k ≡ 0) ⊎ (2 ^ 23 ≤ q) → p ≡ min (k * 0x80_0000 + q) 0x7f80_0000 → of_bits binary32 (cond s (2 ^ 31) 0 + p) ≡ units binary32 s q k
-pattern s q k p h w e = go (lt_or_ge (k * 0x80_0000 + q) 0x7f80_0000)
+pattern s q k p h w e = go (cases_lt (k * 0x80_0000 + q) 0x7f80_0000)
   where
     go : (k * 0x80_0000 + q < 0x7f80_0000) ⊎ (0x7f80_0000 ≤ k * 0x80_0000 + q) → of_bits binary32 (cond s (2 ^ 31) 0 + p) ≡ units binary32 s q k
     go (inl l) =

@@ -14,7 +14,8 @@ use lib.Ieee.Positive.{num, den, den_pos, positive, positive_of_value, value→c
 use Rattle.whole_root.proofs.Squares.{twice, half_square, square_lt}
 use Rattle.float.specs.Root.{isqrt, near_root, rooted, NearestRoot}
 use Rattle.float.proofs.Closest.{closest_down, closest_up}
-use Rattle.float.proofs.Digits.{size_gt, lt_or_ge}
+use Rattle.float.proofs.Digits.{size_gt}
+use Rattle.std.proofs.lemmas.Bool.{cases_lt}
 use Rattle.float.proofs.Fields.{own, subnormal, normal}
 use Rattle.float.proofs.WholeRoot.{Root, isqrt_root, near_up, near_down, root_ge, scaled, k_of, n_of}
 use Rattle.float.proofs.RootFields.{rooted_odd}
@@ -198,7 +199,7 @@ picked X lo hi =
     let l = square_lt r (2 ^ 24) (lt_of_le_of_lt p.0 hi) in
     ⊎_elim (λ (b : r * r + r < X). subst (λ (q : ℕ). Picked X q (q - 1)) (sym (near_up X r hi p b)) (up r b p.1 g l))
     (λ (b : X ≤ r * r + r). subst (λ (q : ℕ). Picked X q (q - 1)) (sym (near_down X r hi p b)) (down r b p.0 g l))
-    (lt_or_ge (r * r + r) X)
+    (cases_lt (r * r + r) X)
   where
     up : (r : ℕ) → r * r + r < X → X < (r + 1) * (r + 1) → 2 ^ 23 ≤ r → r < 2 ^ 24 → Picked X (r + 1) (r + 1 - 1)
     up r b h g l =

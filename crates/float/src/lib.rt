@@ -189,7 +189,7 @@ fn root_of(m: u64, e: u64) -> f32
 }
 
 // The nearest f32 to the square root of a positive value; 0 of 0, -0 of -0, infinity of infinity,
-// NaN of any other negative value.
+// NaN of NaN and of any other negative value.
 pub fn root(x: f32) -> f32
     ensures value { result ≡ rooted x }
     ensures nearest { T (positive x) → NearestRoot x result }

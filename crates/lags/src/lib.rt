@@ -144,7 +144,7 @@ fn lag(i: usize) -> f32
     LAGS_S[i]
 }
 
-// The poles of a grid at this tick: 0, then one for each lag. A place past the last of the 129 is read as the last.
+// The poles of a grid over ticks of dt_s: 0, then one for each lag. A place past the last of the 129 is read as the last.
 pub fn pole(dt_s: f32, i: usize) -> f32
     ensures { (result ≡ pole_of dt_s (min i lag_count)) × WhileAtMost lag_of most_lag lag_count }
 {

@@ -1,4 +1,5 @@
 -- A diagonal that is not above 0 where it is tested makes the whole test fail.
+use Rattle.std.proofs.Math.Bool.{and-false}
 use Prim.Native.Nat.{ℕ, zero, suc, ◌≤◌, ◌<◌}
 use mathlib.Core.Path.{◌≡◌, refl}
 use mathlib.Core.Bool.{Bool, true, false, ◌&&◌}
@@ -15,10 +16,6 @@ fails a zero j h e = absurd (omega arith)
 fails a (suc n) j h e =
     let t : j ≤ n = omega arith in
     ⊎_elim
-    (λ (q : j ≡ n). rw (← q, e) (never (tested_above a j)))
+    (λ (q : j ≡ n). rw (← q, e) (and-false (tested_above a j)))
     (λ (q : j < n). rw (fails a n j q e))
     (eq-or-lt_of_le t)
-  where
-    never : (b : Bool) → (b && false) ≡ false
-    never true = refl
-    never false = refl

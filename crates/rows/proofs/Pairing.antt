@@ -1,4 +1,5 @@
 -- Which moments meet which tick, and which ticks are rows.
+use Rattle.std.proofs.Math.Bool.{and-false}
 use Prim.Native.Nat.{ℕ, zero, suc, ◌+◌, ◌-◌, ◌<◌, ◌≤◌}
 use mathlib.Core.Path.{◌≡◌, refl, ap, fun_ext}
 use mathlib.Core.Bool.{Bool, true, false, not, ◌&&◌, cond}
@@ -53,12 +54,8 @@ history_emptied marks h k e l g =
     (λ (q : h < k).
     let s = since (mark_at marks) h k e q in
     let r : run (mark_at marks) k < 11 = omega arith in
-    rw (lt-leb 11 (run (mark_at marks) k) r) (never (not (mark_at marks k))))
+    rw (lt-leb 11 (run (mark_at marks) k) r) (and-false (not (mark_at marks k))))
     (eq-or-lt_of_le l)
-  where
-    never : (b : Bool) → (b && false) ≡ false
-    never true = refl
-    never false = refl
 
 -- the sums over a window are the sums over its rows, as the good runs have them, in tick order
 module _ (marks : List Bool) where

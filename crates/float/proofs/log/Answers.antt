@@ -3,7 +3,7 @@ use Rattle.std.proofs.Common.{◌≡◌, ℕ, ◌/◌, ◌%◌, ◌^◌, ◌<◌
 use lib.Ieee.{Float, binary32, of_bits, to_bits, of_fields, fits, is_nan}
 use lib.Ieee.Bits.{of_bits-to_bits, to_bits-lt}
 use Rattle.float.specs.Log.{log_of}
-use Rattle.float.proofs.Digits.{lt_or_ge}
+use Rattle.std.proofs.lemmas.Bool.{cases_lt}
 use Rattle.float.proofs.Nan.{only_nan}
 use Rattle.float.proofs.Signs.{plain}
 use Rattle.float.proofs.LogFields.{log_nan, log_zero, log_minus_zero, log_negative, log_infinite, log_subnormal, log_normal}
@@ -24,7 +24,7 @@ zero_log x f e =
     ⊎_elim
     (λ (l : to_bits binary32 x < 2 ^ 31). log_zero ∙ ap log_of (ap (of_bits binary32) (let r : 0 ≡ to_bits binary32 x = omega arith in r) ∙ own))
     (λ l. log_minus_zero ∙ ap log_of (ap (of_bits binary32) (let r : 2 ^ 31 ≡ to_bits binary32 x = omega arith in r) ∙ own))
-    (lt_or_ge (to_bits binary32 x) (2 ^ 31))
+    (cases_lt (to_bits binary32 x) (2 ^ 31))
 
 pub returns-then-is_nan : goal.returns-then-is_nan
 unfolding of_bits
