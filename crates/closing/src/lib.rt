@@ -81,6 +81,7 @@ fn unfitted(status: IdentifyStatus) -> Stand
     }
 }
 
+#[tactic(auto, unfolding(account::specs::Probe::finished, window::specs::Arrays::stored_of))]
 fn search(readings: Readings<'_>) -> Stand
     ensures { result ≡ stand_of (finished_in Integrated readings.entry.window readings.entry.rates.now readings.entry.moments.now) }
 {
@@ -151,6 +152,7 @@ pub fn goes_on(tick: Tick) -> Ending
 // The class of a window. A flight asks for it once or twice, so it stands apart from the ticks before it, as `end_by` does.
 #[cold]
 #[inline(never)]
+#[tactic(auto, unfolding(window::specs::Arrays::samples_in))]
 fn class_of(readings: Readings<'_>) -> Classified
     ensures { (offsets : List Float) → result ≡ class_of (samples_read readings.entry offsets) }
 {
@@ -158,6 +160,7 @@ fn class_of(readings: Readings<'_>) -> Classified
 }
 
 // What the tick at now_s finds, its sample stored: none while its end time is ahead, else the class of the window.
+#[tactic(auto, unfolding(crate::specs::Ending::due_by))]
 pub fn due_at(now_s: f32, end_s: f32, readings: Readings<'_>) -> Option<Classified>
     ensures { (offsets : List Float) → result ≡ due_by (lt now_s end_s) (samples_read readings.entry offsets) }
 {
@@ -215,6 +218,7 @@ pub fn close_over(tick: Tick, readings: Readings<'_>) -> Ending
 }
 
 // The end of a tick of a probe that flies alone.
+#[tactic(auto, using(crate::proofs::Closing::ahead, crate::proofs::Closing::over))]
 pub fn close(tick: Tick, readings: Readings<'_>) -> Ending
     ensures { (offsets : List Float) → result ≡ closed_alone tick (samples_read readings.entry offsets) }
 {

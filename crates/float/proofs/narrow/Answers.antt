@@ -29,14 +29,12 @@ returns-then-exponent-eq2047 c =
 
 pub returns-then-exponent-eq0 : goal.returns-then-exponent-eq0
 returns-then-exponent-eq0 c =
-    let start = c in
-    let b = to_bits binary64 start.args.x in
+    let b = to_bits binary64 c.args.x in
     c.nearest.ensures
     ∙ sym (ap narrowed (own_bits (goal.at.returns-then-exponent-eq0 c).Start) ∙ narrow_subnormal (leb (2 ^ 63) b) (b % 2 ^ 63 / 2 ^ 52) (b % 2 ^ 52) c.if-exponent-eq0.true)
 
 pub returns : goal.returns
 returns c =
-    let start = c in
-    let b = to_bits binary64 start.args.x in
+    let b = to_bits binary64 c.args.x in
     c.nearest-2.ensures
     ∙ sym (ap narrowed (own_bits (goal.at.returns c).Start) ∙ narrow_normal (leb (2 ^ 63) b) (b % 2 ^ 63 / 2 ^ 52) (b % 2 ^ 52) c.if-exponent-eq0.false c.if-exponent-eq2047.false)

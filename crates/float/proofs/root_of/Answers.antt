@@ -41,15 +41,12 @@ k_lt m e h = omega arith
 
 pub packed-requires : goal.packed-requires
 packed-requires c =
-    let w = c in
-    let start = w in
     let d = digits_24 (goal.at.packed-requires c).After-whole_root-whole in
-    (omega (arith, d.1), k_lt start.args.m start.args.e start.requires.2, inr (omega (arith, d.0)))
+    (omega (arith, d.1), k_lt c.args.m c.args.e c.requires.2, inr (omega (arith, d.0)))
 
 pub returns-then-whole : goal.returns-then-whole
 returns-then-whole c =
-    let w = c in
-    let a = w.args in
+    let a = c.args in
     let k = known (goal.at.returns-then-whole c).Else-m-eq0 in
     c.packed.ensures
     ∙ ap (λ (q : ℕ). units binary32 false q (k_of a.m a.e)) (sym (whole_up (n_of a.m a.e) _ k.under (given (goal.at.returns-then-whole c).After-whole_root-whole) c.if-whole.true))
@@ -57,15 +54,12 @@ returns-then-whole c =
 
 pub packed-requires-2 : goal.packed-requires-2
 packed-requires-2 c =
-    let w = c in
-    let start = w in
     let d = digits_24 (goal.at.packed-requires-2 c).After-whole_root-whole in
-    (omega (arith, d.1), k_lt start.args.m start.args.e start.requires.2, inr d.0)
+    (omega (arith, d.1), k_lt c.args.m c.args.e c.requires.2, inr d.0)
 
 pub returns : goal.returns
 returns c =
-    let w = c in
-    let a = w.args in
+    let a = c.args in
     let k = known (goal.at.returns c).Else-m-eq0 in
     c.packed-2.ensures
     ∙ ap (λ (q : ℕ). units binary32 false q (k_of a.m a.e)) (sym (whole_down (n_of a.m a.e) _ k.under (given (goal.at.returns c).After-whole_root-whole) c.if-whole.false))

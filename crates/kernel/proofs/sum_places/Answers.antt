@@ -11,9 +11,6 @@ loop-b-init c =
     let e : min 0 (c.fitted-n.result + 11) ≡ 0 = omega arith in
     (omega arith, refl, rw e (lags_begin c.args.poles (at c.args.input.moments.now)), begin _ _)
 
-pub loop-d-init : goal.loop-d-init
-loop-d-init c = c.loop-b.invariant.3
-
 pub loop-d-preserved : goal.loop-d-preserved
 loop-d-preserved c =
     let z : min c.loop-b.b last_block ≡ c.loop-b.b = omega arith in

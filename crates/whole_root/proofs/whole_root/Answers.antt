@@ -20,9 +20,7 @@ loop-preserved c =
 pub returns : goal.returns
 unfolding whole_of
 returns c =
-    let end = c in
-    let l = end.loop in
-    let start = end in
-    let n = start.args.n in
+    let l = c.loop in
+    let n = c.args.n in
     let e = ap whole_of (l.invariant.1 ∙ ap (λ (k : ℕ). rounds k n) (let r : l.counter ≡ 24 = omega arith in r)) in
-    record { rounds = e; whole = subst (Whole (n * 2 ^ 16)) (sym e) (whole n start.ranges.n.fits) }
+    record { rounds = e; whole = subst (Whole (n * 2 ^ 16)) (sym e) (whole n c.ranges.n.fits) }
