@@ -110,7 +110,8 @@ pub fn add_window(readings: Readings<'_>, d: usize, start: Sums) -> Sums
     let delay = delay_within(d);
     let mut sums = start;
     let mut run = 0;
-    // By index: a row reads ticks before its own.
+    // By index: a row reads ticks before its own. `shared_sums` walks the same rows: the two loops share `next_run` and the test of its answer, and a walk
+    // that is handed what to do at a row would be longer, since what it was handed changes from call to call.
     for k in 0..window.stored() {
         run = next_run(held[k], run);
         if run < HISTORY {

@@ -29,6 +29,7 @@ pub struct Swept {
 const LAST_EDGE: u32 = 32_769;
 
 // The half periods in s: 1.0 down to 0.2 by 0.1, then 0.6 down to 0.2 over and over.
+#[tactic(auto, unfolding(crate::specs::Sweep::half_period))]
 pub fn half_period_s(index: u32) -> f32
     ensures { result ≡ half_period index }
 {
