@@ -167,8 +167,8 @@ fn replayed<S: Fn(&[u8]) -> usize, A: Fn(&[u8]) -> bool>(
     requires answered { A.IsAlwaysCallable agrees }
     ensures { Replays (FnReturnsAt S.Fn size) (FnReturnsAt A.Fn agrees) bytes.now (started (length bytes.now)) result }
 {
-    // A `while`: how long a record is shows only once it is reached.
     let mut records = Records::new(bytes);
+    // A `while`: how long a record is shows only once it is reached.
     while 0 < records.left {
         let record = rest(bytes, records.left);
         records = records.with(size(record), agrees(record));
