@@ -19,6 +19,9 @@ fn replay_f32<F: Fn(f32) -> f32 + Drop>(
     replay(rt, name, path, |_| 8, |s| is_at(f(read_float(s, 0)), s, 4))
 }
 
+// Each of the others by itself, for they differ in how wide their arguments and answers are: one function for them would be handed how each
+// argument is read and each answer compared.
+
 fn finite_agrees(s: &[u8]) -> bool {
     u32::from(float::is_finite(read_float(s, 0))) == read_word(s, 4)
 }

@@ -7,123 +7,123 @@ ghost use Rattle.std.specs.Prelude.{◌≤◌};
 use delay::RateModel;
 use gain::FitInput;
 use grid::LagFit;
-use std::io;
-use vectors::{count_at, double_at, is_at, replay};
+use std::{array, io};
+use vectors::{are_at, count_at, double_at, part, replay};
 use wire::{read_float, read_word};
 
-// Every second word from a place on.
-fn load(s: &[u8], first: usize, n: usize, values: &mut [f32; 2048])
-    requires { (first ≤ 100) × (n ≤ 2048) }
-{
-    for (k, value) in values[..n].iter_mut().enumerate() {
-        *value = read_float(s, first + k * 8);
+// A window's readings: the rates and the moments, which a gain fit takes lagged.
+#[derive(Drop)]
+struct Recording {
+    len: usize,
+    rates: [f32; 2048],
+    moments: [f32; 2048],
+    ghost within: { len ≤ 2048 },
+}
+
+impl Recording {
+    // w stored; from a place on each f rate, f moment.
+    fn read(s: &[u8], first: usize) -> Self {
+        let len = count_at(s, 0, 2048);
+        let mut rates = [0.0f32; 2048];
+        let mut moments = [0.0f32; 2048];
+        let pairs = part(s, first, len * 8).chunks_exact(8);
+        for ((rate, moment), pair) in rates.iter_mut().zip(&mut moments).zip(pairs) {
+            *rate = read_float(pair, 0);
+            *moment = read_float(pair, 4);
+        }
+        Recording {
+            len,
+            rates,
+            moments,
+        }
     }
 }
 
 // f dt_s, 129 f poles, carry as f64 bits.
 fn poles_agree(s: &[u8]) -> bool {
     let dt_s = read_float(s, 0);
-    (0..129usize).all(|i| is_at(lags::pole(dt_s, i), s, 4 + i * 4))
-        & (f64::from(lags::carry(dt_s)) == double_at(s, 520))
+    let poles: [f32; 129] = array::from_fn(|i| lags::pole(dt_s, i));
+    are_at(&poles, s, 4) & (f64::from(lags::carry(dt_s)) == double_at(s, 520))
 }
 
 // w stored, w step, carry as f64 bits; each f rate, f lagged; w 1 for a fit, else 0; f gain, f residual.
-// A finite moment goes through the lag of pole 0 as it is.
+// A finite moment goes through the lag of pole 0 as it is, but for a -0, which comes out as +0 after a lagged +0.
 fn gain_agrees(s: &[u8]) -> bool {
-    let n = count_at(s, 0, 2048);
-    let mut rates = [0.0f32; 2048];
-    let mut lagged = [0.0f32; 2048];
-    load(s, 16, n, &mut rates);
-    load(s, 20, n, &mut lagged);
+    let recording = Recording::read(s, 16);
     let fit = trial::fit_gain(
-        &rates,
-        &lagged,
-        n,
+        &recording.rates,
+        &recording.moments,
+        recording.len,
         double_at(s, 8),
         read_word(s, 4) as usize,
         0.0,
     );
-    let end = 16 + n * 8;
+    let answer = part(s, 16 + recording.len * 8, 12);
     match fit {
-        None => read_word(s, end) == 0,
-        Some(fit) => (read_word(s, end) == 1)
-            & is_at(fit.gain, s, end + 4)
-            & is_at(fit.residual, s, end + 8),
+        None => read_word(answer, 0) == 0,
+        Some(fit) => (read_word(answer, 0) == 1) & are_at(&[fit.gain, fit.residual], answer, 4),
     }
 }
 
 // w 1 for a candidate, else 0; f pole, low end, high end, gain, residual.
-fn is_kept(kept: Option<LagFit>, s: &[u8], at: usize) -> bool
-    requires { at ≤ 20000 }
-{
+fn is_kept(kept: Option<LagFit>, s: &[u8]) -> bool {
     match kept {
-        None => read_word(s, at) == 0,
-        Some(b) => (read_word(s, at) == 1)
-            & is_at(b.bracket.pole, s, at + 4)
-            & is_at(b.bracket.low, s, at + 8)
-            & is_at(b.bracket.high, s, at + 12)
-            & is_at(b.fit.gain, s, at + 16)
-            & is_at(b.fit.residual, s, at + 20),
+        None => read_word(s, 0) == 0,
+        Some(LagFit { bracket: b, fit }) => (read_word(s, 0) == 1)
+            & are_at(&[b.pole, b.low, b.high, fit.gain, fit.residual], s, 4),
     }
 }
 
 // w stored, f dt_s; each f rate, f moment; what each of 20 steps keeps.
 fn grid_agrees(s: &[u8]) -> bool {
-    let n = count_at(s, 0, 2048);
-    if n < 12 {
+    let recording = Recording::read(s, 8);
+    let len = recording.len;
+    if len < 12 {
         return false;
     }
-    let mut rates = [0.0f32; 2048];
-    let mut moments = [0.0f32; 2048];
-    load(s, 8, n, &mut rates);
-    load(s, 12, n, &mut moments);
     let dt_s = read_float(s, 4);
     let carry = f64::from(lags::carry(dt_s));
     let mut constants = [0.0f64; 2048];
     let mut changes = [0.0f64; 2048];
-    let shared = gain::prepare(&rates, carry, n, &mut constants, &mut changes);
+    let shared = gain::prepare(&recording.rates, carry, len, &mut constants, &mut changes);
     let input = FitInput {
-        moments: &moments,
+        moments: &recording.moments,
         constants: &constants,
         changes: &changes,
         shared,
     };
-    let kept = grid::keep_poles(input, dt_s);
-    let end = 8 + n * 8;
-    (0..20usize).all(|step| is_kept(kept[step], s, end + step * 24))
+    let expected = part(s, 8 + len * 8, 480).chunks_exact(24);
+    grid::keep_poles(input, dt_s)
+        .iter()
+        .zip(expected)
+        .all(|(kept, bytes)| is_kept(*kept, bytes))
 }
 
 // w 1 for a model; w step; w d; f two rate weights, three moment weights, dt_s.
-fn is_model(m: RateModel, s: &[u8], at: usize) -> bool
-    requires { at ≤ 20000 }
-{
+fn is_model(m: RateModel, s: &[u8]) -> bool {
     let d = m.delay;
-    (read_word(s, at) == 1)
-        & ((d.half_ticks as u64) == (read_word(s, at + 4) as u64) + 2)
-        & (d.whole_ticks() == read_word(s, at + 8))
-        & is_at(m.r1, s, at + 12)
-        & is_at(m.r2, s, at + 16)
-        & is_at(m.m0, s, at + 20)
-        & is_at(m.m1, s, at + 24)
-        & is_at(m.m2, s, at + 28)
-        & is_at(m.dt_s, s, at + 32)
+    (read_word(s, 0) == 1)
+        & ((d.half_ticks as u64) == (read_word(s, 4) as u64) + 2)
+        & (d.whole_ticks() == read_word(s, 8))
+        & are_at(&[m.r1, m.r2, m.m0, m.m1, m.m2, m.dt_s], s, 12)
 }
 
-// w stored, f window duration; each f rate, f moment; the model, or w 0 and nine words; w gain fits.
+// w stored, f window duration; each f rate, f moment; the model, or w 0 and eight words; w gain fits.
 fn integrated_agrees(s: &[u8]) -> bool {
-    let n = count_at(s, 0, 2048);
-    let mut rates = [0.0f32; 2048];
-    let mut moments = [0.0f32; 2048];
-    load(s, 8, n, &mut rates);
-    load(s, 12, n, &mut moments);
-    let fit = integrated::fit_integrated(&rates, &moments, n, read_float(s, 4));
-    let end = 8 + n * 8;
-    if fit.gain_fits != read_word(s, end + 36) {
+    let recording = Recording::read(s, 8);
+    let fit = integrated::fit_integrated(
+        &recording.rates,
+        &recording.moments,
+        recording.len,
+        read_float(s, 4),
+    );
+    let answer = part(s, 8 + recording.len * 8, 40);
+    if fit.gain_fits != read_word(answer, 36) {
         return false;
     }
     match fit.model {
-        None => read_word(s, end) == 0,
-        Some(m) => is_model(m, s, end),
+        None => read_word(answer, 0) == 0,
+        Some(m) => is_model(m, answer),
     }
 }
 

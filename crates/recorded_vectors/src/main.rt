@@ -2,13 +2,11 @@
 // each file agree to the last bit. A file is a run of big-endian 32-bit words, as host/README.md lays them out; an expected NaN is 7FC00000.
 #![tactic(auto)]
 
-ghost use Rattle.std.specs.Prelude.{◌≤◌};
-
 use delay::Entry;
 use least_squares::Sums;
 use recorded::{Classified, RecordedFit};
 use std::io;
-use vectors::{count_at, is_at, part, replay, same};
+use vectors::{are_at, count_at, is_at, part, replay, same};
 use window::{Readings, Window};
 use wire::{read_float, read_word};
 
@@ -35,10 +33,10 @@ fn tie_agrees(s: &[u8]) -> bool {
 
 // ---- sums and their solution
 
-// Six floats from byte `at` on.
-fn six(s: &[u8], at: usize) -> [f32; 6] {
+// The first six floats.
+fn six(s: &[u8]) -> [f32; 6] {
     let mut floats = [0.0f32; 6];
-    for (float, bytes) in floats.iter_mut().zip(part(s, at, 24).chunks_exact(4)) {
+    for (float, bytes) in floats.iter_mut().zip(s.chunks_exact(4)) {
         *float = read_float(bytes, 0);
     }
     floats
@@ -47,12 +45,12 @@ fn six(s: &[u8], at: usize) -> [f32; 6] {
 // 36 f normal, column after column, 6 f projected, f target squared.
 fn sums(s: &[u8]) -> Sums {
     let mut normal = [[0.0f32; 6]; 6];
-    for (j, column) in normal.iter_mut().enumerate() {
-        *column = six(s, j * 24);
+    for (column, bytes) in normal.iter_mut().zip(part(s, 0, 144).chunks_exact(24)) {
+        *column = six(bytes);
     }
     Sums {
         normal,
-        projected: six(s, 144),
+        projected: six(part(s, 144, 24)),
         target_squared: read_float(s, 168),
     }
 }
@@ -71,9 +69,7 @@ fn same_sums(a: Sums, b: Sums) -> bool {
 fn solve_agrees(s: &[u8]) -> bool {
     match sums(s).solve() {
         None => read_word(s, 172) == 0,
-        Some(f) => (read_word(s, 172) == 1)
-            & same_six(&f.c, &six(s, 176))
-            & is_at(f.residual, s, 200),
+        Some(f) => (read_word(s, 172) == 1) & are_at(&f.c, s, 176) & is_at(f.residual, s, 200),
     }
 }
 
@@ -129,10 +125,10 @@ fn sums_agree(s: &[u8]) -> bool {
     let readings = recording.readings(0.0);
     let shared = shared_sums::sum_shared(readings);
     let answers = part(s, 8 + count_at(s, 0, 2048) * 12, 1720);
-    (0..10usize).all(|k| {
-        let expected = sums(part(answers, k * 172, 172));
-        let alone = rows::add_window(readings, k + 1, rows::no_sums());
-        same_sums(alone, expected) & same_sums(delay_sums::delay_sums(shared, k + 1), expected)
+    (1..=10usize).zip(answers.chunks_exact(172)).all(|(delay, answer)| {
+        let expected = sums(answer);
+        let alone = rows::add_window(readings, delay, rows::no_sums());
+        same_sums(alone, expected) & same_sums(delay_sums::delay_sums(shared, delay), expected)
     })
 }
 
@@ -152,13 +148,7 @@ fn fit_agrees(fit: Option<RecordedFit>, s: &[u8]) -> bool {
         Some(RecordedFit { model: m, rms }) => (read_word(s, 0) == 1)
             & (m.delay.whole_ticks() == read_word(s, 4))
             & (m.delay.half_tick() == 0)
-            & is_at(m.r1, s, 8)
-            & is_at(m.r2, s, 12)
-            & is_at(m.m0, s, 16)
-            & is_at(m.m1, s, 20)
-            & is_at(m.m2, s, 24)
-            & is_at(m.dt_s, s, 28)
-            & is_at(rms, s, 32),
+            & are_at(&[m.r1, m.r2, m.m0, m.m1, m.m2, m.dt_s, rms], s, 8),
     }
 }
 

@@ -5,10 +5,11 @@
 
 use std::io;
 use sweep::SquareSweep;
-use vectors::{is_at, replay};
+use vectors::{are_at, is_at, replay};
 use wire::{read_float, read_word};
 
 // w index, f half period.
+// By itself: one function for this file and those of `float_vectors` would be handed how each argument is read and each answer compared.
 fn half_period_agrees(s: &[u8]) -> bool {
     is_at(sweep::half_period_s(read_word(s, 0)), s, 4)
 }
@@ -26,13 +27,11 @@ fn tick_agrees(s: &[u8]) -> bool {
     };
     let swept = before.next(read_float(s, 24), read_float(s, 28));
     let after = swept.sweep;
-    is_at(after.amplitude, s, 0)
-        & is_at(after.washout_tc_s, s, 4)
+    are_at(&[after.amplitude, after.washout_tc_s], s, 0)
         & (after.edge == read_word(s, 32))
         & is_at(after.next_edge_s, s, 36)
         & (u32::from(after.high) == read_word(s, 40))
-        & is_at(after.washout, s, 44)
-        & is_at(swept.offset, s, 48)
+        & are_at(&[after.washout, swept.offset], s, 44)
 }
 
 fn main(rt: HostRuntime) -> io::Result<()> {

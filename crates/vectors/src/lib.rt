@@ -2,7 +2,8 @@
 // Words are big-endian. An expected NaN is 7FC00000, and as an f64 7FF80000 00000000.
 #![tactic(auto)]
 
-ghost use Rattle.std.specs.Prelude.{◌≡◌, ◌+◌, ◌-◌, ◌≤◌, length, take, drop, min, ◌==◌, from_bits, to_bits, Some};
+ghost use Rattle.std.specs.Prelude.{◌≡◌, ◌+◌, ◌-◌, ◌*◌, ◌≤◌, length, take, drop, min, ◌==◌, from_bits, to_bits, Some};
+ghost use Rattle.std.specs.List.{list_all, enumerate_from};
 ghost use Rattle.std.specs.Float.{binary32, binary64};
 ghost use Rattle.std.specs.Fn.{FnReturnsAt};
 ghost use Rattle.wire.specs.Words.{word_at};
@@ -22,10 +23,27 @@ pub fn is_at(x: f32, s: &[u8], at: usize) -> bool
     float::to_word(x) == wire::read_word(s, at)
 }
 
+// Whether a float is the word that stands k words after a place, bit for bit.
+fn is_word(x: f32, s: &[u8], at: usize, k: usize) -> bool
+    ensures { result ≡ (to_bits binary32 x == word_at s.now (at + k * 4)) }
+{
+    is_at(x, s, at.saturating_add(k.saturating_mul(4)))
+}
+
+// Whether floats are those from a place on, word after word, bit for bit.
+pub fn are_at(values: &[f32], s: &[u8], at: usize) -> bool
+    ensures { result ≡ list_all (λ p. to_bits binary32 p.1 == word_at s.now (at + p.0 * 4)) (enumerate_from 0 values.now) }
+{
+    values
+        .iter()
+        .enumerate()
+        .all(|(k, x)| is_word(*x, s, at, k))
+}
+
 // The bits of the f64 at a place, the high word first; a byte past the end counts as 0.
-#[tactic(auto, unfolding(crate::specs::Words::double_bits_at))]
+#[tactic(auto, using(wire::proofs::Read::word_at_saturated), unfolding(crate::specs::Words::double_bits_at))]
 fn double_bits_at(s: &[u8], at: usize) -> u64
-    ensures { at + 8 ≤ length s.now → result ≡ double_bits_at s.now at }
+    ensures { result ≡ double_bits_at s.now at }
 {
     let high = wire::read_word(s, at) as u64;
     let low = wire::read_word(s, at.saturating_add(4)) as u64;
@@ -34,14 +52,14 @@ fn double_bits_at(s: &[u8], at: usize) -> u64
 
 // The f64 at a place.
 pub fn double_at(s: &[u8], at: usize) -> f64
-    ensures { at + 8 ≤ length s.now → result ≡ from_bits binary64 (double_bits_at s.now at) }
+    ensures { result ≡ from_bits binary64 (double_bits_at s.now at) }
 {
     std::num::f64_from_bits_with_nan(double_bits_at(s, at))
 }
 
 // Whether an f64 is the one at a place, bit for bit.
 pub fn double_is_at(x: f64, s: &[u8], at: usize) -> bool
-    ensures { at + 8 ≤ length s.now → result ≡ (to_bits binary64 x == double_bits_at s.now at) }
+    ensures { result ≡ (to_bits binary64 x == double_bits_at s.now at) }
 {
     std::num::f64_to_bits_with_nan(x) == double_bits_at(s, at)
 }
@@ -150,6 +168,7 @@ fn replayed<S: Fn(&[u8]) -> usize, A: Fn(&[u8]) -> bool>(
     ensures { Replays (FnReturnsAt S.Fn size) (FnReturnsAt A.Fn agrees) bytes.now (started (length bytes.now)) result }
 {
     let mut records = Records::new(bytes);
+    // A `while`: how long a record is shows only once it is reached.
     while 0 < records.left {
         let record = rest(bytes, records.left);
         records = records.with(size(record), agrees(record));
@@ -196,8 +215,8 @@ fn read<R: Files + Alloc>(rt: &R, file: R::File) -> io::Result<Vec<u8, R::A>> {
     Ok(bytes)
 }
 
-// Replays a file, and prints its line. Public only for the programs of the gate, whose two functions it calls: that they may be called is
-// all that it asks.
+// Replays a file, and prints its line; of what it prints it promises nothing. Public only for the programs that replay vectors, whose two
+// functions it calls: that they may be called is all that it asks.
 pub fn replay<R: Files + Print + Alloc, S: Fn(&[u8]) -> usize + Drop, A: Fn(&[u8]) -> bool + Drop>(
     rt: &R,
     name: &str,

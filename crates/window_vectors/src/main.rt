@@ -3,18 +3,11 @@
 // pattern of good and bad readings up to length 14. Words are big-endian.
 #![tactic(auto)]
 
-ghost use Rattle.std.specs.Prelude.{◌<◌, ◌≤◌};
-
 use counting::Counts;
 use std::io;
-use vectors::{count_at, is_at, replay};
+use vectors::{are_at, count_at, is_at, part, replay};
 use window::{LentArrays, Window};
-use wire::{read_float, read_word};
-
-// The byte at a place; 0 where there is none.
-fn byte(s: &[u8], at: usize) -> u8 {
-    s.get(at).copied().unwrap_or(0)
-}
+use wire::{read_byte, read_float, read_word};
 
 // ---- recordings
 
@@ -53,40 +46,26 @@ impl Recording {
         counting::count_ticks(self.window, &self.held)
     }
 
-    #[tactic(auto, unfolding(window::specs::Arrays::stored_of))]
-    fn stored(&self) -> usize
-        ensures { result ≤ 2048 }
-    {
-        self.window.stored()
-    }
-
-    // Whether sample k is the one at a place: f rate, f moment, f offset, w mark.
-    fn sample_is_at(&self, k: usize, s: &[u8], at: usize) -> bool
-        requires { (k < 2048) × (at ≤ 200000) }
-    {
-        is_at(self.rates[k], s, at)
-            & is_at(self.moments[k], s, at + 4)
-            & is_at(self.offsets[k], s, at + 8)
-            & (u32::from(self.held[k]) == read_word(s, at + 12))
-    }
-
-    // Whether the stored samples are those at a place.
-    fn samples_agree(&self, s: &[u8], at: usize) -> bool
-        requires { at ≤ 100000 }
-    {
-        (0..self.stored()).all(|k| self.sample_is_at(k, s, at + k * 16))
-    }
-
-    // Whether the totals are those at a place: w stored, w held, w warm, w rows, f window duration.
-    fn totals_agree(&self, s: &[u8], at: usize) -> bool
-        requires { at ≤ 100000 }
-    {
+    // Whether the totals are the first five words: w stored, w held, w warm, w rows, f window duration.
+    fn totals_agree(&self, s: &[u8]) -> bool {
         let c = self.counts();
-        (self.stored() == (read_word(s, at) as usize))
-            & (c.held == (read_word(s, at + 4) as usize))
-            & (c.warm == (read_word(s, at + 8) as usize))
-            & (c.rows == (read_word(s, at + 12) as usize))
-            & is_at(self.window.duration_s, s, at + 16)
+        (self.window.stored() == (read_word(s, 0) as usize))
+            & (c.held == (read_word(s, 4) as usize))
+            & (c.warm == (read_word(s, 8) as usize))
+            & (c.rows == (read_word(s, 12) as usize))
+            & is_at(self.window.duration_s, s, 16)
+    }
+
+    // Whether the samples, from the first on, are those of some bytes: each f rate, f moment, f offset, w mark.
+    fn samples_agree(&self, s: &[u8]) -> bool {
+        let readings = self.rates.iter().zip(&self.moments).zip(&self.offsets);
+        readings
+            .map(|((rate, moment), offset)| [*rate, *moment, *offset])
+            .zip(&self.held)
+            .zip(s.chunks_exact(16))
+            .all(|((reading, mark), sample)| {
+                are_at(&reading, sample, 0) & (u32::from(*mark) == read_word(sample, 12))
+            })
     }
 }
 
@@ -94,17 +73,17 @@ impl Recording {
 fn recording_agrees(s: &[u8]) -> bool {
     let ticks = count_at(s, 0, 4096);
     let mut recording = Recording::new();
-    for k in 0..ticks {
-        let at = 4 + k * 16;
+    for tick in part(s, 4, ticks * 16).chunks_exact(16) {
         recording.record(
-            read_float(s, at),
-            read_float(s, at + 4),
-            read_float(s, at + 8),
-            read_float(s, at + 12),
+            read_float(tick, 0),
+            read_float(tick, 4),
+            read_float(tick, 8),
+            read_float(tick, 12),
         );
     }
     let end = 4 + ticks * 16;
-    recording.totals_agree(s, end) & recording.samples_agree(s, end + 20)
+    let samples = part(s, end + 20, count_at(s, end, 2048) * 16);
+    recording.totals_agree(part(s, end, 20)) & recording.samples_agree(samples)
 }
 
 // The bytes of a recording: its ticks, five words, its stored samples.
@@ -137,31 +116,27 @@ fn counts(pattern: u32, before: u32, n: u32) -> Counts {
     recording.counts()
 }
 
-// Whether counts are the three bytes at a place: held, warm, rows.
-fn counts_at(c: Counts, s: &[u8], at: usize) -> bool
-    requires { at ≤ 8 }
-{
-    (c.held == (byte(s, at) as usize))
-        & (c.warm == (byte(s, at + 1) as usize))
-        & (c.rows == (byte(s, at + 2) as usize))
+// Whether counts are the first three bytes: held, warm, rows.
+fn counts_agree(c: Counts, s: &[u8]) -> bool {
+    (c.held == (read_byte(s, 0) as usize))
+        & (c.warm == (read_byte(s, 1) as usize))
+        & (c.rows == (read_byte(s, 2) as usize))
 }
 
 // 16 bits of the pattern; bytes: readings, held, warm, rows.
 fn pattern_agrees(s: &[u8]) -> bool {
-    let pattern = u16::from_be_bytes([byte(s, 0), byte(s, 1)]) as u32;
-    counts_at(counts(pattern, 0, byte(s, 2) as u32), s, 3)
+    let pattern = u16::from_be_bytes([read_byte(s, 0), read_byte(s, 1)]) as u32;
+    counts_agree(counts(pattern, 0, read_byte(s, 2) as u32), part(s, 3, 3))
 }
 
 // Bytes: good readings before, length of the pattern, pattern, good readings after, held, warm, rows, 0.
 fn around_agrees(s: &[u8]) -> bool {
-    let before = byte(s, 0) as u32;
-    let length = byte(s, 1) as u32;
-    let after = byte(s, 3) as u32;
-    counts_at(
-        counts(byte(s, 2) as u32, before, before + length + after),
-        s,
-        4,
-    )
+    let before = read_byte(s, 0) as u32;
+    let length = read_byte(s, 1) as u32;
+    let pattern = read_byte(s, 2) as u32;
+    let after = read_byte(s, 3) as u32;
+    let counts = counts(pattern, before, before + length + after);
+    counts_agree(counts, part(s, 4, 3))
 }
 
 fn main(rt: HostRuntime) -> io::Result<()> {

@@ -1,6 +1,7 @@
 -- Words and floats read back from the bytes that they were written as.
-use Prim.Native.Nat.{ℕ, zero, suc, ◌+◌, ◌*◌, ◌/◌, ◌%◌, ◌^◌, ◌<◌}
+use Prim.Native.Nat.{ℕ, zero, suc, min, ◌+◌, ◌*◌, ◌/◌, ◌%◌, ◌^◌, ◌≤◌, ◌<◌}
 use mathlib.Core.Path.{◌≡◌, refl, sym, ap, ◌∙◌}
+use mathlib.Core.Logic.{⊎_elim}
 use mathlib.Core.List.{List, [], ◌∷◌, ◌++◌}
 use native.Mathlib.Nat.{div-one, div-add-mod', div-div-eq-div-mul}
 use native.Mathlib.Omega.{arith}
@@ -9,8 +10,19 @@ use lib.ListN.{length, get_or, get_or-append}
 use lib.Seq.{get_or-append-add}
 use lib.Ieee.{Float, binary32, of_bits, fits}
 use lib.Ieee.Bits.{of_bits-to_bits, to_bits-lt}
+use Rattle.std.proofs.lemmas.Bool.{cases_lt}
+use Rattle.std.proofs.lemmas.List.{get_or_past}
 use Rattle.wire.specs.Words.{bytes_of, word_bytes, word_of, word_at, float_at}
 use Rattle.wire.proofs.Bytes.{length_bytes, length_words}
+
+-- a place past the largest number is past the end of every list, and so is the largest: both read as 0
+word_at_past : (bytes : List ℕ) (p : ℕ) → length bytes ≤ p → word_at bytes p ≡ 0
+unfolding word_at
+word_at_past bytes p h = rw (get_or_past bytes p 0 h, get_or_past bytes (p + 1) 0 (omega arith), get_or_past bytes (p + 2) 0 (omega arith), get_or_past bytes (p + 3) 0 (omega arith))
+
+pub word_at_saturated : (bytes : List ℕ) (p n : ℕ) → length bytes ≤ n → word_at bytes (min p n) ≡ word_at bytes p
+word_at_saturated bytes p n h =
+    ⊎_elim (λ (e : p < n). let m : min p n ≡ p = omega arith in rw m) (λ (e : n ≤ p). let m : min p n ≡ n = omega arith in rw (m, word_at_past bytes n h, word_at_past bytes p (omega arith))) (cases_lt p n)
 
 -- four bytes joined
 abbrev joined : ℕ → ℕ

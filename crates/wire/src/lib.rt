@@ -5,11 +5,11 @@
 ghost use Rattle.std.specs.Prelude.{◌≡◌, ℕ, ◌+◌, ◌*◌, ◌≤◌, map, length, get_or};
 ghost use Rattle.wire.specs.Words.{bytes_of, word_bytes, word_of, word_at, float_at, written_at, written_within, words_within};
 
-// The byte `k` places after `at`; 0 past the end.
-fn byte(bytes: &[u8], at: usize, k: usize) -> u8
-    ensures { result ≡ get_or bytes.now (at + k) 0 }
+// The byte at a place; 0 past the end.
+pub fn read_byte(bytes: &[u8], at: usize) -> u8
+    ensures { result ≡ get_or bytes.now at 0 }
 {
-    bytes.get(at.saturating_add(k)).copied().unwrap_or(0)
+    bytes.get(at).copied().unwrap_or(0)
 }
 
 // The word at byte `at` of a slice that ends before the word does.
@@ -18,22 +18,22 @@ fn torn_word(bytes: &[u8], at: usize) -> u32
     ensures { result ≡ word_at bytes.now at }
 {
     u32::from_be_bytes([
-        byte(bytes, at, 0),
-        byte(bytes, at, 1),
-        byte(bytes, at, 2),
-        byte(bytes, at, 3),
+        read_byte(bytes, at),
+        read_byte(bytes, at.saturating_add(1)),
+        read_byte(bytes, at.saturating_add(2)),
+        read_byte(bytes, at.saturating_add(3)),
     ])
 }
 
-// The word at byte `at`; a byte past the end counts as 0. The first test does not depend on the place: a loop makes it once.
+// The word at byte `at`; a byte past the end counts as 0.
 #[tactic(auto, using(crate::proofs::Bytes::four_joined), unfolding(crate::specs::Words::word_at))]
 pub fn read_word(bytes: &[u8], at: usize) -> u32
     ensures { result ≡ word_at bytes.now at }
 {
-    if bytes.len() < 4 || bytes.len() - 4 < at {
-        return torn_word(bytes, at);
+    match bytes.get(at..).and_then(|rest| rest.first_chunk::<4>()) {
+        Some(word) => u32::from_be_bytes(*word),
+        None => torn_word(bytes, at),
     }
-    u32::from_be_bytes([bytes[at], bytes[at + 1], bytes[at + 2], bytes[at + 3]])
 }
 
 // The float at byte `at`; every NaN pattern gives NaN.
@@ -92,6 +92,7 @@ pub fn write_words<W: Word>(out: &mut [u8], at: usize, values: &[W])
     ensures each { out.new ≡ words_within at (map W.word values.now) out.old }
     ensures all { at + 4 * length values.now ≤ length out.old → out.new ≡ written_at at (word_bytes (map W.word values.now)) out.old }
 {
+    // By places: after a loop over `chunks_exact_mut(4)` zipped with the values a proof does not know what the bytes are.
     for (k, value) in values.iter().enumerate() {
         write_word(out, at.saturating_add(k.saturating_mul(4)), value.word());
     }
