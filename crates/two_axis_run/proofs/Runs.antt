@@ -11,7 +11,10 @@ use Rattle.window.specs.Lent.{Lent, Whole}
 use Rattle.account.specs.declared.IdentifyConfig.{IdentifyConfig}
 use Rattle.report.specs.declared.Report.{Report}
 use Rattle.probe_report.specs.ProbeReport.{of_probe}
-use Rattle.byte_run.specs.ByteRun.{reply_word, onto}
+use Rattle.batch.specs.Calls as batch
+use Rattle.batch.specs.Batch.{onto}
+use Rattle.batch.proofs.Sizing.{length_calls}
+use Rattle.byte_run.specs.ByteRun.{reply_word}
 use Rattle.two_axis.specs.Axes.{Axis, first, second, axes, TwoCall}
 use Rattle.two_axis.specs.Probes.{Probes, fresh_two, step_two, moved, after_two, replies_two}
 use Rattle.two_axis.specs.Accounts.{opened_two, account_two}
@@ -23,7 +26,6 @@ use Rattle.two_axis_report.proofs.Bytes.{length_two}
 use Rattle.two_axis_report.proofs.Reported.{reported_two}
 use Rattle.two_axis_calls.specs.Calls.{call_at, answer_words}
 use Rattle.two_axis_run.specs.TwoAxisRun.{calls_to, calls_of, in_turn, words_of, written}
-use Rattle.two_axis_run.proofs.Reading.{length_calls}
 
 -- the words of the calls of two probes, and of one call more
 abbrev words_from : Probes → List TwoCall → List ℕ
@@ -48,12 +50,12 @@ module _ (c : IdentifyConfig) (bytes : List ℕ) where
   words k = words_of c (calls_to bytes k)
 
   length_word : (k : ℕ) → length (words k) ≡ 2 * k
-  length_word k = rw (length_from (fresh_two c) (calls_to bytes k), length_calls bytes k)
+  length_word k = rw (length_from (fresh_two c) (calls_to bytes k), length_calls 20 call_at bytes k)
 
   -- one call more, of a probe p and arrays l that stand where the first k left them
   module _ (k : ℕ) {p : Structs} {l : Lents} (h : Stands c (calls_to bytes k) p l) where
     said : words (suc k) ≡ words k ++ answer_words (two_stepped_by p l (call_at bytes (20 * k))).answer
-    unfolding calls_to
+    unfolding batch.calls_to
     said = let x = call_at bytes (20 * k) in words_more (fresh_two c) (calls_to bytes k) x ∙ rw (replies_on h x first, replies_on h x second)
 
     pub words_in : (out : List ℕ) → 77 + 8 * k ≤ length out
@@ -67,7 +69,7 @@ module _ (c : IdentifyConfig) (bytes : List ℕ) where
 
     pub stands_on : {q : Structs} {m : Lents} → q ≡ probes_left (two_stepped_by p l (call_at bytes (20 * k))) → m ≡ lents_left (two_stepped_by p l (call_at bytes (20 * k)))
         → Stands c (calls_to bytes (suc k)) q m
-    unfolding calls_to
+    unfolding batch.calls_to
     stands_on e f = subst₂ (λ (q : Structs) (m : Lents). Stands c (calls_to bytes (suc k)) q m) (sym e) (sym f) (goes_on h (call_at bytes (20 * k)))
 
 -- whole arrays of each axis
@@ -93,7 +95,7 @@ module _ (c : IdentifyConfig) (bytes l : List ℕ) (h : 77 + 8 * (length bytes /
   pub whole_run : (p : Structs) (found : Lents) (r s : Report) → HoldsTwo c (calls_of bytes) p found (account_two (opened_two c) (calls_of bytes))
       → r ≡ of_probe (seen_two p found first) → s ≡ of_probe (seen_two p found second)
       → written_within 0 (report_two (axes r s)) (written_at 77 (word_bytes (words_of c (calls_of bytes))) l) ≡ onto (written c (calls_of bytes)) l
-  unfolding written calls_of
+  unfolding written batch.calls_of
   whole_run p found r s k e f =
       let a = account_two (opened_two c) (calls_of bytes) in
       let report : report_two (axes r s) ≡ report_two (reports_of a) = ap report_two (fun_ext (both r s (λ x. of_probe (seen_two p found x)) e f)) ∙ reported_two k.accounted in

@@ -9,8 +9,9 @@ use Rattle.wire.proofs.Written.{nothing_written}
 use Rattle.account.specs.Probe.{replies}
 use Rattle.window.specs.Lent.{arrays_in}
 use Rattle.identify.specs.Seen.{seen}
-use Rattle.byte_run.specs.ByteRun.{calls_to, calls_of}
-use Rattle.byte_run.proofs.Runs.{next_probe, word_in, calls_fit, accounts}
+use Rattle.batch.specs.Calls.{calls_to, calls_of}
+use Rattle.batch.proofs.Sizing.{calls_fit}
+use Rattle.byte_run.proofs.Runs.{next_probe, word_in, accounts}
 use Rattle.byte_run.proofs.run_calls.Goals as goal
 
 pub loop-k-init : goal.loop-k-init
@@ -18,7 +19,7 @@ unfolding calls_to replies word_bytes
 loop-k-init c = (omega arith, c.requires.1, search rules, refl, sym (nothing_written 36 c.args.output.now))
 
 pub run_call-requires : goal.run_call-requires
-run_call-requires c = (calls_fit (length c.args.calls.now) c.loop-k.k (omega arith), omega (arith, c.requires.0), c.loop-k.invariant.1)
+run_call-requires c = (calls_fit 12 (length c.args.calls.now) c.loop-k.k (omega arith), omega (arith, c.requires.0), c.loop-k.invariant.1)
 
 pub loop-k-preserved : goal.loop-k-preserved
 loop-k-preserved c =

@@ -11,8 +11,10 @@ use Rattle.two_axis_probe.specs.declared.TwoAxisProbe.{TwoAxisProbe}
 use Rattle.two_axis_probe.specs.Stepped.{probes_of, lents_of}
 use Rattle.two_axis_probe.specs.Held.{Stands}
 use Rattle.two_axis_probe.proofs.Flying.{begins, holds}
-use Rattle.two_axis_run.specs.TwoAxisRun.{calls_to, calls_of, in_turn}
-use Rattle.two_axis_run.proofs.Reading.{calls_fit}
+use Rattle.batch.specs.Calls.{calls_to, calls_of}
+use Rattle.batch.proofs.Sizing.{calls_fit}
+use Rattle.two_axis_run.specs.TwoAxisRun as run
+use Rattle.two_axis_run.specs.TwoAxisRun.{in_turn}
 use Rattle.two_axis_run.proofs.Runs.{words_in, stands_on, wholes}
 use Rattle.two_axis_run.proofs.run_calls.Goals as goal
 
@@ -25,13 +27,13 @@ loop-k-init c =
       search rules,
       search rules,
       λ config e. (
-        subst (λ (q : TwoAxisProbe). Stands config (calls_to a.calls.now 0) (probes_of q) found) (sym e) (begins config found (wholes c.requires.1 c.requires.2)),
+        subst (λ (q : TwoAxisProbe). Stands config (run.calls_to a.calls.now 0) (probes_of q) found) (sym e) (begins config found (wholes c.requires.1 c.requires.2)),
         sym (nothing_written 77 a.output.now),
       ),
     )
 
 pub run_call-requires : goal.run_call-requires
-run_call-requires c = (calls_fit (length c.args.calls.now) c.loop-k.k c.loop-k-test.true, omega (arith, c.requires.0))
+run_call-requires c = (calls_fit 20 (length c.args.calls.now) c.loop-k.k c.loop-k-test.true, omega (arith, c.requires.0))
 
 pub loop-k-preserved : goal.loop-k-preserved
 loop-k-preserved c =

@@ -1,15 +1,17 @@
--- `run` starts with empty arrays, makes the calls, and writes the report of both axes before their words.
+-- A run starts with empty arrays, makes the calls, and writes the report of both axes before their words.
 use mathlib.Core.Path.{ap, ◌∙◌}
 use Rattle.wire.specs.Words.{written_within}
 use Rattle.window.specs.Lent.{arrays_in}
 use Rattle.two_axis.specs.Axes.{axes}
 use Rattle.two_axis_report.specs.TwoReport.{report_two}
 use Rattle.two_axis_run.proofs.Runs.{whole_run}
-use Rattle.two_axis_run.proofs.run.Goals as goal
+use Rattle.two_axis_run.proofs.TwoAxesBatch.fly.Goals as goal
 
 pub returns : goal.returns
-returns c config fresh =
+returns c =
     let a = c.args in
+    let config = a.config in
+    let fresh = c.fresh-probe.ensures in
     let k = c.run_calls in
     let r = c.report_of-first.result in
     let s = c.report_of-second.result in

@@ -1,0 +1,3 @@
+pub mod Sized
+pub mod Calls
+pub mod Batch
