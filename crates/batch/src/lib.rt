@@ -1,11 +1,11 @@
 // A run over bytes, whatever its calls are: a configuration, calls and a report as bytes, all at once.
 #![tactic(auto)]
 
-ghost use Rattle.std.specs.Prelude.{◌≡◌, ℕ, ◌+◌, ◌*◌, ◌/◌, ◌<◌, ◌≤◌, List, length};
+ghost use Rattle.std.specs.Prelude.{◌≡◌, ℕ, ◌+◌, ◌*◌, ◌/◌, ◌≤◌, List, [], length};
 ghost use Rattle.account.specs.declared.IdentifyConfig.{IdentifyConfig};
-ghost use Rattle.account.specs.Rules.{broken};
 ghost use Rattle.rules.specs.Numbers.{numbered};
 ghost use Rattle.batch.specs.Batch.{onto, batch_run};
+ghost use Rattle.batch.specs.Flown.{written, FliesOn};
 ghost use Rattle.batch.specs.Sized.{sized, Workable};
 
 use account::IdentifyConfig;
@@ -19,7 +19,70 @@ pub struct Sizes {
     pub report: usize,
 }
 
-// A kind of run.
+// What the calls of a run go to, one at a time: the probe, and the arrays of its window.
+pub trait Flight {
+    ghost use Rattle.batch.specs.declared.Sizes.{Sizes};
+    ghost use Rattle.batch.specs.Flown.{StepsOn, Reports};
+
+    ghost sizes: { Sizes };
+
+    // Where a run of a configuration stands after the first calls of these bytes, as many as the number says.
+    ghost stands: { IdentifyConfig → List ℕ → ℕ → Self → Type 0 };
+
+    // The bytes of their answers.
+    ghost answers: { IdentifyConfig → List ℕ → ℕ → List ℕ };
+
+    // The report after all calls of these bytes.
+    ghost reported: { IdentifyConfig → List ℕ → List ℕ };
+
+    // One call, from its bytes to those of its answer.
+    fn step(&mut self, call: &[u8], answer: &mut [u8])
+        requires call { length call.now ≡ sizes.call }
+        requires answer { length answer.old ≡ sizes.answer }
+        ensures { StepsOn sizes.call stands answers self.old self.new call.now answer.new };
+
+    // Writes the report to the front of the output.
+    fn report(&self, output: &mut [u8])
+        requires { sizes.report ≤ length output.old }
+        ensures { Reports sizes.call stands reported self.now output.old output.new };
+
+    ghost unanswered: { (c : IdentifyConfig) (calls : List ℕ) → answers c calls 0 ≡ [] };
+
+    ghost report_size: { (c : IdentifyConfig) (calls : List ℕ) → length (reported c calls) ≡ sizes.report };
+}
+
+// Call k of a run, and its answer.
+fn fly_call<F: Flight>(flight: &mut F, sizes: Sizes, calls: &[u8], k: usize, output: &mut [u8])
+    requires sizes { sizes ≡ F.sizes }
+    requires call { sizes.call * k + sizes.call ≤ length calls.now }
+    requires answer { sizes.report + sizes.answer * k + sizes.answer ≤ length output.old }
+    ensures { (c : IdentifyConfig) → FliesOn sizes F.stands F.answers c calls.now k flight.old flight.new output.old output.new }
+{
+    let from = sizes.call * k;
+    let at = sizes.report + sizes.answer * k;
+    flight.step(
+        &calls[from..from + sizes.call],
+        &mut output[at..at + sizes.answer],
+    );
+}
+
+// The calls of a run that no call has reached yet, one after the other, and then the report before their answers.
+pub fn fly<F: Flight>(flight: &mut F, sizes: Sizes, calls: &[u8], output: &mut [u8])
+    requires sizes { sizes ≡ F.sizes }
+    requires workable { Workable sizes }
+    requires output { sizes.report + sizes.answer * (length calls.now / sizes.call) ≤ length output.old }
+    ensures stands { (c : IdentifyConfig) → F.stands c calls.now 0 flight.old → F.stands c calls.now (length calls.now / sizes.call) flight.new }
+    ensures output { (c : IdentifyConfig) → F.stands c calls.now 0 flight.old → output.new ≡ onto (written sizes.call F.reported F.answers c calls.now) output.old }
+{
+    let n = calls.len() / sizes.call;
+    // By index: a call is some bytes of the one slice, and its answer some of the other.
+    for k in 0..n {
+        fly_call(flight, sizes, calls, k, output);
+    }
+    flight.report(output);
+}
+
+// A kind of run: its sizes, and what flies it.
 pub trait Batch {
     ghost use Rattle.batch.specs.declared.Sizes.{Sizes};
 

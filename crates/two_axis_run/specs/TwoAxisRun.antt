@@ -13,10 +13,6 @@ use Rattle.byte_run.specs.ByteRun.{reply_word}
 use Rattle.two_axis.specs.Axes.{Axis, first, second, TwoCall}
 use Rattle.two_axis.specs.Probes.{fresh_two, replies_two}
 use Rattle.two_axis.specs.Accounts.{Accounts, opened_two, account_two}
-use Rattle.two_axis_probe.specs.declared.TwoAxisProbe.{TwoAxisProbe}
-use Rattle.window.specs.declared.LentArrays.{LentArrays}
-use Rattle.two_axis_probe.specs.Stepped.{probes_of, lents_of}
-use Rattle.two_axis_probe.specs.Held.{HoldsTwo}
 use Rattle.two_axis_report.specs.TwoReport.{report_two, reports_of, report_at, TellsSums}
 use Rattle.two_axis_calls.specs.Calls.{call_at}
 
@@ -47,10 +43,6 @@ sizes = record { call = 20; answer = 8; report = 77 }
 -- "it returns 0, or the number of 1 to 5 or 9"
 unfoldable pub two_axis_run : (config calls output : List ℕ) → Ran
 two_axis_run config calls output = batch_run sizes (λ c bytes. written c (calls_of bytes)) config calls output
-
--- after the calls in these bytes the probe and its arrays hold the two accounts
-abbrev pub HoldsAfter : IdentifyConfig → List ℕ → TwoAxisProbe → (lent1 lent2 : LentArrays) → Type 0
-HoldsAfter c bytes p lent1 lent2 = HoldsTwo c (calls_of bytes) (probes_of p) (lents_of lent1 lent2) (account_two (opened_two c) (calls_of bytes))
 
 -- the accounts of a run
 abbrev pub accounts_of : (config calls : List ℕ) → Accounts

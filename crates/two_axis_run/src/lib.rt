@@ -1,66 +1,62 @@
 // The byte run of two axes: a configuration, calls and a report as bytes.
 #![tactic(auto)]
 
-ghost use Rattle.std.specs.Prelude.{◌≡◌, ◌+◌, ◌*◌, ◌/◌, ◌≤◌, length};
-ghost use Rattle.wire.specs.Words.{word_bytes, written_at};
-ghost use Rattle.window.specs.Lent.{arrays_in, Whole};
-ghost use Rattle.account.specs.declared.IdentifyConfig.{IdentifyConfig};
+ghost use Rattle.std.specs.Prelude.{◌≡◌};
 ghost use Rattle.rules.specs.Numbers.{numbered};
-ghost use Rattle.identify.specs.Seen.{SameArrays};
-ghost use Rattle.two_axis_probe.specs.Stepped.{fresh_two_axis, answer_of, LeavesTwo};
-ghost use Rattle.two_axis_calls.specs.Calls.{call_at, answer_words};
-ghost use Rattle.two_axis_run.specs.TwoAxisRun.{calls_of, HoldsAfter, words_of, two_axis_run, TellsDelays, TellsModels, TellsSumsOf};
+ghost use Rattle.two_axis_run.specs.TwoAxisRun.{two_axis_run, TellsDelays, TellsModels, TellsSumsOf};
 
 use account::IdentifyConfig;
-use batch::{Batch, Sizes};
+use batch::{Batch, Flight, Sizes};
 use rules::Rule;
 use two_axis_probe::TwoAxisProbe;
 use window::LentArrays;
 
-// Call k of a run, and its two words.
-fn run_call(
-    probe: &mut TwoAxisProbe,
-    lent1: &mut LentArrays<'_>,
-    lent2: &mut LentArrays<'_>,
-    calls: &[u8],
-    k: usize,
-    output: &mut [u8],
-)
-    requires { (20 * k + 20 ≤ length calls.now) × (77 + 8 * k + 8 ≤ length output.old) }
-    ensures left { LeavesTwo probe.old probe.new lent1.old lent1.new lent2.old lent2.new (answer_of probe.old lent1.old lent2.old (call_at calls.now (20 * k))) }
-    ensures output { output.new ≡ written_at (77 + 8 * k) (word_bytes (answer_words (answer_of probe.old lent1.old lent2.old (call_at calls.now (20 * k))).answer)) output.old }
-{
-    let from = 20 * k;
-    let bytes = &calls[from..from + 20];
-    let at = 77 + 8 * k;
-    two_axis_calls::run_call(probe, lent1, lent2, bytes, &mut output[at..at + 8]);
+// A flight of two axes: their probe, and the arrays of each one's window.
+#[derive(Drop)]
+struct TwoAxes<'a> {
+    probe: TwoAxisProbe,
+    lent1: LentArrays<'a>,
+    lent2: LentArrays<'a>,
 }
 
-// The calls of a run one after the other, from a probe just made.
-fn run_calls(
-    probe: &mut TwoAxisProbe,
-    lent1: &mut LentArrays<'_>,
-    lent2: &mut LentArrays<'_>,
-    calls: &[u8],
-    output: &mut [u8],
-)
-    requires { (77 + 8 * (length calls.now / 20) ≤ length output.old) × Whole (arrays_in lent1.old) × Whole (arrays_in lent2.old) }
-    ensures accounted { (c : IdentifyConfig) → probe.old ≡ fresh_two_axis c → HoldsAfter c calls.now probe.new lent1.new lent2.new }
-    ensures same1 { SameArrays lent1.old lent1.new }
-    ensures same2 { SameArrays lent2.old lent2.new }
-    ensures output { (c : IdentifyConfig) → probe.old ≡ fresh_two_axis c → output.new ≡ written_at 77 (word_bytes (words_of c (calls_of calls.now))) output.old }
-{
-    let n = calls.len() / 20;
-    // By index: a call has 20 bytes of the one slice, and its words 8 of the other.
-    for k in 0..n {
-        run_call(probe, lent1, lent2, calls, k, output);
+impl Flight for TwoAxes<'_> {
+    ghost use Rattle.two_axis_run.specs.TwoAxisRun.{sizes, calls_to, calls_of};
+    ghost use Rattle.two_axis_run.specs.Calls.{StandsAfter, answer_bytes, no_answers, report_of};
+    ghost use Rattle.two_axis_report.proofs.Bytes.{length_two};
+
+    ghost sizes = { sizes };
+
+    ghost stands = { λ c calls k flight. StandsAfter c (calls_to calls k) flight.probe flight.lent1 flight.lent2 };
+
+    ghost answers = { λ c calls k. answer_bytes c (calls_to calls k) };
+
+    ghost reported = { λ c calls. report_of c (calls_of calls) };
+
+    fn step(&mut self, call: &[u8], answer: &mut [u8]) {
+        two_axis_calls::run_call(
+            &mut self.probe,
+            &mut self.lent1,
+            &mut self.lent2,
+            call,
+            answer,
+        );
     }
+
+    fn report(&self, output: &mut [u8]) {
+        let first = probe_report::report_of(self.probe.first, self.lent1.rates, self.lent1.held);
+        let second = probe_report::report_of(self.probe.second, self.lent2.rates, self.lent2.held);
+        two_axis_report::write_two(output, first, second);
+    }
+
+    ghost unanswered = { no_answers };
+
+    ghost report_size = { λ c calls. length_two _ };
 }
 
 // The run of two axes.
-struct TwoAxes;
+struct TwoAxesRun;
 
-impl Batch for TwoAxes {
+impl Batch for TwoAxesRun {
     ghost use Rattle.std.proofs.Common.{rules};
     ghost use Rattle.two_axis_run.specs.TwoAxisRun.{sizes, written, calls_of};
 
@@ -83,25 +79,22 @@ impl Batch for TwoAxes {
         let mut moments2 = [0.0f32; 2048];
         let mut offsets2 = [0.0f32; 2048];
         let mut held2 = [false; 2048];
-        let mut lent1 = LentArrays {
-            rates: &mut rates1,
-            moments: &mut moments1,
-            offsets: &mut offsets1,
-            held: &mut held1,
+        let mut flight = TwoAxes {
+            probe: TwoAxisProbe::fresh(config),
+            lent1: LentArrays {
+                rates: &mut rates1,
+                moments: &mut moments1,
+                offsets: &mut offsets1,
+                held: &mut held1,
+            },
+            lent2: LentArrays {
+                rates: &mut rates2,
+                moments: &mut moments2,
+                offsets: &mut offsets2,
+                held: &mut held2,
+            },
         };
-        let mut lent2 = LentArrays {
-            rates: &mut rates2,
-            moments: &mut moments2,
-            offsets: &mut offsets2,
-            held: &mut held2,
-        };
-        let mut probe = TwoAxisProbe::fresh(config);
-        run_calls(&mut probe, &mut lent1, &mut lent2, calls, output);
-        let LentArrays { rates, held, .. } = lent1;
-        let first = probe_report::report_of(probe.first, rates, held);
-        let LentArrays { rates, held, .. } = lent2;
-        let second = probe_report::report_of(probe.second, rates, held);
-        two_axis_report::write_two(output, first, second);
+        batch::fly(&mut flight, TwoAxesRun::SIZES, calls, output);
     }
 
     ghost workable = { Prim.search rules };
@@ -117,5 +110,5 @@ pub fn two_axis_run(config: &[u8], calls: &[u8], output: &mut [u8]) -> Result<()
     ensures models { TellsModels (numbered result) output.new }
     ensures sums { TellsSumsOf config.now calls.now (numbered result) output.new }
 {
-    batch::run::<TwoAxes>(config, calls, output)
+    batch::run::<TwoAxesRun>(config, calls, output)
 }
