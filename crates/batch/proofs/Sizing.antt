@@ -1,17 +1,15 @@
 -- The sizes of a run: what its answers take, and where its calls stand.
-use Prim.Native.Nat.{ℕ, zero, suc, ◌+◌, ◌*◌, ◌/◌, ◌%◌, ◌≤◌, ◌<◌}
-use mathlib.Core.Path.{◌≡◌, refl}
+use Prim.Native.Nat.{ℕ, ◌+◌, ◌*◌, ◌/◌, ◌%◌, ◌≤◌, ◌<◌}
+use mathlib.Core.Path.{◌≡◌}
 use mathlib.Core.Bool.{true, ◌&&◌, and-eq-true_iff}
 use mathlib.Core.List.{List}
-use native.Mathlib.Numerals.{add-one}
 use native.Mathlib.Nat.{mul-le-mul_left, mul-le-mul_right, mul-div-le, mul-suc}
 use native.Mathlib.Omega.{arith}
 use borrow.Author.Tests.{leb-true}
 use lib.Dec.{eqb}
-use lib.ListN.{length, length-append}
+use lib.ListN.{length}
 use Rattle.batch.specs.declared.Sizes.{Sizes}
 use Rattle.batch.specs.Sized.{sized}
-use Rattle.batch.specs.Calls.{calls_to}
 
 -- answers no longer than their calls
 pub answers_fit : (answer call n : ℕ) → answer ≤ call → answer * (n / call) ≤ n
@@ -23,11 +21,6 @@ unfolding sized
 output_size s config calls output good =
     let front = eqb (length config) 24 && eqb (length calls % s.call) 0 in
     leb-true (s.report + s.answer * (length calls / s.call)) (length output) ((and-eq-true_iff front _).0 good).1
-
-pub length_calls : {A : Type 0} (size : ℕ) (call_at : List ℕ → ℕ → A) (bytes : List ℕ) (n : ℕ) → length (calls_to size call_at bytes n) ≡ n
-unfolding calls_to
-length_calls size call_at bytes zero = refl
-length_calls size call_at bytes (suc n) = rw (length-append, length_calls size call_at bytes n, add-one)
 
 -- a call that stands within the bytes
 pub calls_fit : (size n k : ℕ) → k < n / size → size * k + size ≤ n

@@ -1,4 +1,4 @@
--- A flight, and what the calls of a run make of it, call by call. S says where a run stands after some of its calls, and A has the answers of as many.
+-- A flight, and what the calls of a run make of it, call by call. S says where a run stands after some of its calls, A has the answers of as many, and R the report after all.
 use Rattle.std.specs.Prelude.{ℕ, suc, ◌+◌, ◌*◌, ◌/◌, ◌≤◌, ◌≡◌, List, ◌++◌, length, take, drop}
 use Rattle.account.specs.declared.IdentifyConfig.{IdentifyConfig}
 use Rattle.wire.specs.Words.{written_at}
@@ -11,12 +11,11 @@ Stand F = IdentifyConfig → List ℕ → ℕ → F → Type 0
 abbrev pub Answers : Type 0
 Answers = IdentifyConfig → List ℕ → ℕ → List ℕ
 
-abbrev pub Report : Type 0
-Report = IdentifyConfig → List ℕ → List ℕ
+abbrev pub Reported : Type 0
+Reported = IdentifyConfig → List ℕ → List ℕ
 
--- the report, and then the answers
-abbrev pub written : ℕ → Report → Answers → IdentifyConfig → List ℕ → List ℕ
-written size R A c calls = R c calls ++ A c calls (length calls / size)
+abbrev pub report_and_answers : ℕ → Reported → Answers → IdentifyConfig → List ℕ → List ℕ
+report_and_answers size R A c calls = R c calls ++ A c calls (length calls / size)
 
 -- a call that is call k of some takes a flight that stands before it one call on, and its answer comes behind those before it
 abbrev pub StepsOn : {F : Type 0} → ℕ → Stand F → Answers → (old new : F) → (call answer : List ℕ) → Type 0
@@ -25,7 +24,7 @@ StepsOn size S A old new call answer =
     → S c calls (suc k) new × (A c calls (suc k) ≡ A c calls k ++ answer)
 
 -- the report of a flight that stands behind all calls
-abbrev pub Reports : {F : Type 0} → ℕ → Stand F → Report → F → (old new : List ℕ) → Type 0
+abbrev pub Reports : {F : Type 0} → ℕ → Stand F → Reported → F → (old new : List ℕ) → Type 0
 Reports size S R flight old new =
     (c : IdentifyConfig) (calls : List ℕ) → S c calls (length calls / size) flight → new ≡ onto (R c calls) old
 

