@@ -1,5 +1,4 @@
 pub mod Marked
 pub mod Reading
-pub mod Answers
 pub mod Runs
 pub mod ByteRuns

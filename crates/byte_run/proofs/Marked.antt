@@ -5,7 +5,10 @@ use mathlib.Core.Bool.{false}
 use mathlib.Core.List.{List, [], ◌∷◌, ◌++◌}
 use lib.ListN.{replicate, length}
 use Rattle.byte_config.specs.ByteConfig.{config_of, extension_of}
-use Rattle.byte_run.specs.ByteRun.{byte_run, run_if, ran, onto, sized, written, reply_word, calls_of, calls_to, call_at}
+use Rattle.batch.specs.Batch.{batch_run, run_if, ran, onto}
+use Rattle.batch.specs.Sized.{sized}
+use Rattle.batch.specs.Calls.{calls_of, calls_to}
+use Rattle.byte_run.specs.ByteRun.{byte_run, written, reply_word, call_at}
 use Rattle.wire.specs.Words.{float_at, word_at, word_bytes, bytes_of, Ran}
 use Rattle.report.specs.Report.{report_bytes, packed, fields_of, floats_of, kind_of}
 use Rattle.probe_report.specs.ProbeReport.{of_account}
@@ -62,7 +65,7 @@ pub record Marked : Type 0 where
   pub M12 : (held_of window.broken ≡ 1) × (warm_of (good_runs window.broken) ≡ 22) × (length (rows_of (good_runs window.broken)) ≡ 3)
 
 pub marked : Marked
-unfolding m1_config m1_call m1_ran byte_run run_if ran sized broken broken_extension non_zero positive too_long config_of extension_of float_at word_at finite of_bits of_int lt eq onto written calls_of calls_to call_at reply_word report_bytes word_bytes bytes_of packed fields_of floats_of delay_of kind_of of_account opened entry counted is_integrated judged ended accept time turned continue next clock fresh_at finished stands takes extend close tick answer step replies overrun refusal effect_of entry_of model_of fit_at fit_of entries solved_at rows_dt fit_recorded class_of classify target regressors product projection sums_by no_sums sum_rows window_sums fill_down less each reduced factor_entry factor above forward_entry forward backward_entry backward dot difference_of all_finite kept solve_if solve_with solve considered residuals lesser least_to within first_from under_bar shortest_tied delay_to_fit run over many runs_from held_of rows_of warm_of no_samples last_of push hold bad store half_period started pass_edge due pass_due pass_edges square washed with_washout with_amplitude swept next_sweep max_zero least isqrt near_root root_of rooted sum_to fill to_bits add sub mul div neg le ne
+unfolding m1_config m1_call m1_ran byte_run batch_run run_if ran sized broken broken_extension non_zero positive too_long config_of extension_of float_at word_at finite of_bits of_int lt eq onto written calls_of calls_to call_at reply_word report_bytes word_bytes bytes_of packed fields_of floats_of delay_of kind_of of_account opened entry counted is_integrated judged ended accept time turned continue next clock fresh_at finished stands takes extend close tick answer step replies overrun refusal effect_of entry_of model_of fit_at fit_of entries solved_at rows_dt fit_recorded class_of classify target regressors product projection sums_by no_sums sum_rows window_sums fill_down less each reduced factor_entry factor above forward_entry forward backward_entry backward dot difference_of all_finite kept solve_if solve_with solve considered residuals lesser least_to within first_from under_bar shortest_tied delay_to_fit run over many runs_from held_of rows_of warm_of no_samples last_of push hold bad store half_period started pass_edge due pass_due pass_edges square washed with_washout with_amplitude swept next_sweep max_zero least isqrt near_root root_of rooted sum_to fill to_bits add sub mul div neg le ne
 marked = record {
   M1 = refl;
   M2 = sweep.M2;

@@ -1,7 +1,6 @@
 -- The byte run: 01, "The byte run". "All fields 32-bit, big-endian."
-use Rattle.std.specs.Prelude.{ℕ, zero, suc, ◌+◌, ◌*◌, ◌/◌, ◌%◌, ◌≡◌, Bool, true, false, ◌&&◌, List, [], ◌∷◌, ◌++◌, map, leb, eqb, length, drop}
+use Rattle.std.specs.Prelude.{ℕ, ◌+◌, ◌≡◌, List, ◌++◌, map}
 use Rattle.account.specs.declared.IdentifyConfig.{IdentifyConfig}
-use Rattle.account.specs.Rules.{broken}
 use Rattle.account.specs.Probe.{Call, alone, Reply, offset, refused, fresh, replies}
 use Rattle.account.specs.Account.{opened, account}
 use Rattle.account.specs.Claim.{account_delay}
@@ -9,18 +8,20 @@ use Rattle.wire.specs.Words.{float_at, word_bytes, word_of, Ran}
 use Rattle.byte_config.specs.ByteConfig.{config_of}
 use Rattle.report.specs.Report.{report_bytes, Tells, TellsFinite}
 use Rattle.probe_report.specs.ProbeReport.{of_account}
+use Rattle.batch.specs.declared.Sizes.{Sizes}
+use Rattle.batch.specs.Calls as batch
+use Rattle.batch.specs.Batch.{batch_run}
 
 -- "Call: dt, rate, moment": the call at byte i
 unfoldable pub call_at : List ℕ → ℕ → Call
 call_at bytes i = alone (float_at bytes i) (float_at bytes (i + 4)) (float_at bytes (i + 8))
 
--- the first n calls
-unfoldable pub calls_to : List ℕ → ℕ → List Call
-calls_to bytes zero = []
-calls_to bytes (suc n) = calls_to bytes n ++ (call_at bytes (12 * n) ∷ [])
+-- the first n calls, and all
+abbrev pub calls_to : List ℕ → ℕ → List Call
+calls_to bytes n = batch.calls_to 12 call_at bytes n
 
-unfoldable pub calls_of : List ℕ → List Call
-calls_of bytes = calls_to bytes (length bytes / 12)
+abbrev pub calls_of : List ℕ → List Call
+calls_of bytes = batch.calls_of 12 call_at bytes
 
 -- "one offset per call; a NaN offset is 7FC00000, a refused call writes 7FC00000 + its number and the run goes on"
 unfoldable pub reply_word : Reply → ℕ
@@ -32,27 +33,12 @@ unfoldable pub written : IdentifyConfig → List Call → List ℕ
 written c calls = report_bytes (of_account (account (opened c) calls)) ++ word_bytes (map reply_word (replies (fresh c) calls))
 
 -- "9: configuration not 24 bytes, calls not a multiple of 12, or output below 36 + 4 bytes a call"
-unfoldable pub sized : List ℕ → List ℕ → List ℕ → Bool
-sized config calls output =
-    eqb (length config) 24 && eqb (length calls % 12) 0 && leb (36 + 4 * (length calls / 12)) (length output)
-
--- over the bytes that stood there; "Later bytes are untouched."
-unfoldable pub onto : List ℕ → List ℕ → List ℕ
-onto bytes output = bytes ++ drop (length bytes) output
-
--- "9, and 1 to 5 in a byte run, write no byte"
-unfoldable pub ran : ℕ → IdentifyConfig → List Call → List ℕ → Ran
-ran (suc n) c calls output = record { result = suc n; output = output }
-ran zero c calls output = record { result = 0; output = onto (written c calls) output }
-
--- 9 "precedes all"
-unfoldable pub run_if : Bool → List ℕ → List ℕ → List ℕ → Ran
-run_if false config calls output = record { result = 9; output = output }
-run_if true config calls output = ran (broken (config_of config)) (config_of config) (calls_of calls) output
+abbrev pub sizes : Sizes
+sizes = record { call = 12; answer = 4; report = 36 }
 
 -- "it returns 0, or the number of 1 to 5 or 9"
-unfoldable pub byte_run : List ℕ → List ℕ → List ℕ → Ran
-byte_run config calls output = run_if (sized config calls output) config calls output
+unfoldable pub byte_run : (config calls output : List ℕ) → Ran
+byte_run config calls output = batch_run sizes (λ c bytes. written c (calls_of bytes)) config calls output
 
 -- a run that answers 0 tells the account's delay: d its whole ticks, the bit after d its half tick
 abbrev pub TellsDelay : (config calls : List ℕ) → ℕ → List ℕ → Type 0

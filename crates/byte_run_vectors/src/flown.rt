@@ -4,7 +4,7 @@
 
 use identify::Call;
 use rules::Rule;
-use two_axis_probe::TwoCall;
+use two_axis_probe::{AxisReading, TwoCall};
 use window::LentArrays;
 use wire::{read_float, write_word};
 
@@ -146,10 +146,14 @@ pub fn two_axes(options: u32, config: &[u8], calls: &[u8], output: &mut [u8]) ->
             &mut first_dt_s,
             TwoCall {
                 dt: read_float(call, 0),
-                rate1: read_float(call, 4),
-                moment1: read_float(call, 8),
-                rate2: read_float(call, 12),
-                moment2: read_float(call, 16),
+                first: AxisReading {
+                    rate: read_float(call, 4),
+                    moment: read_float(call, 8),
+                },
+                second: AxisReading {
+                    rate: read_float(call, 12),
+                    moment: read_float(call, 16),
+                },
             },
             &mut offset1,
             &mut offset2,

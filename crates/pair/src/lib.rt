@@ -15,7 +15,7 @@ ghost use Rattle.steady_pair.specs.SteadyPair.{SteadyPairOpened, SteadyPairStepp
 ghost use Rattle.steady_pair.specs.SteadyPairFlown.{OpensSteadyPair, OpensPlainPair, SteadyPairFliesOn, StepsPlainPair};
 ghost use Rattle.pair.specs.Lent.{pair_over};
 
-use two_axis_probe::TwoCall;
+use two_axis_probe::{AxisReading, TwoCall};
 use window::LentArrays;
 
 // Opens a pair in its scalars, plain or, with an option of 1, as steady; the arrays of samples may hold anything. It answers 0; 9 where an option has no meaning; or the number of the first of the rules 1 to 5 that is broken. On a number nothing is written.
@@ -95,10 +95,14 @@ pub extern "C" fn identify_live_pair_step(
     };
     let call = TwoCall {
         dt,
-        rate1,
-        moment1,
-        rate2,
-        moment2,
+        first: AxisReading {
+            rate: rate1,
+            moment: moment1,
+        },
+        second: AxisReading {
+            rate: rate2,
+            moment: moment2,
+        },
     };
     rules::number_or_0(steady_pair::step(
         words1, floats1, &mut lent1, words2, floats2, &mut lent2, steady, first_dt_s, call,

@@ -1,26 +1,38 @@
 // The calls of a byte run of two axes, one at a time: read from their bytes, and answered by two words.
 #![tactic(auto)]
 
-ghost use Rattle.std.specs.Prelude.{◌≡◌};
+ghost use Rattle.std.specs.Prelude.{◌≡◌, ◌+◌, ◌≤◌};
+ghost use Rattle.wire.specs.Words.{float_at};
 ghost use Rattle.rules.specs.Numbers.{numbers};
 ghost use Rattle.two_axis_probe.specs.Stepped.{two_call_of, answer_of, LeavesTwo};
 ghost use Rattle.two_axis_calls.specs.Calls.{call_at, answer_words, words_within};
 
 use rules::Rule;
-use two_axis_probe::{TwoAxisProbe, TwoCall};
+use two_axis_probe::{AxisReading, TwoAxisProbe, TwoCall};
 use window::LentArrays;
 
+// The reading of 8 bytes that start at byte `at`.
+fn reading_at(bytes: &[u8], at: usize) -> AxisReading
+    requires { at ≤ 12 }
+    ensures rate { result.rate ≡ float_at bytes.now at }
+    ensures moment { result.moment ≡ float_at bytes.now (at + 4) }
+{
+    AxisReading {
+        rate: wire::read_float(bytes, at),
+        moment: wire::read_float(bytes, at + 4),
+    }
+}
+
 // The call of 20 bytes; one past the end reads as 0.
+// The dt is read last: read first, it goes through one register with three of the readings, and a call takes a sixth longer.
 #[tactic(auto, unfolding(crate::specs::Calls::call_at))]
 fn call_of(bytes: &[u8]) -> TwoCall
     ensures { two_call_of result ≡ call_at bytes.now 0 }
 {
     TwoCall {
+        first: reading_at(bytes, 4),
+        second: reading_at(bytes, 12),
         dt: wire::read_float(bytes, 0),
-        rate1: wire::read_float(bytes, 4),
-        moment1: wire::read_float(bytes, 8),
-        rate2: wire::read_float(bytes, 12),
-        moment2: wire::read_float(bytes, 16),
     }
 }
 

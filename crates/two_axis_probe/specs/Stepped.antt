@@ -34,7 +34,7 @@ lents_of lent1 lent2 = axes (arrays_in lent1) (arrays_in lent2)
 
 -- a call as the accounts are fed it
 abbrev pub two_call_of : code.TwoCall → TwoCall
-two_call_of c = two_call c.dt c.rate1 c.moment1 c.rate2 c.moment2
+two_call_of c = two_call c.dt c.first.rate c.first.moment c.second.rate c.second.moment
 
 -- the probes of the definitions
 abbrev pub seen_two : Structs → Lents → Probes

@@ -22,38 +22,32 @@ pub struct TwoAxisProbe {
     pub second: IdentifyProbe,
 }
 
-// One call of both axes: the seconds since the last one, and each axis's body rate at this tick with the moment commanded on the last one.
+// What a call brings of one axis: its body rate at this tick, with the moment commanded on the last one.
+#[derive(Clone, Copy)]
+pub struct AxisReading {
+    pub rate: f32,
+    pub moment: f32,
+}
+
+impl AxisReading {
+    // The axis's own call, dt seconds after its last one.
+    fn call(self, dt: f32) -> Call
+        ensures { result ≡ record { dt = dt; rate = self.rate; moment = self.moment } }
+    {
+        Call {
+            dt,
+            rate: self.rate,
+            moment: self.moment,
+        }
+    }
+}
+
+// One call of both axes: the seconds since the last one, and each axis's reading.
 #[derive(Clone, Copy)]
 pub struct TwoCall {
     pub dt: f32,
-    pub rate1: f32,
-    pub moment1: f32,
-    pub rate2: f32,
-    pub moment2: f32,
-}
-
-impl TwoCall {
-    // The first axis's own call.
-    fn first(self) -> Call
-        ensures { result ≡ record { dt = self.dt; rate = self.rate1; moment = self.moment1 } }
-    {
-        Call {
-            dt: self.dt,
-            rate: self.rate1,
-            moment: self.moment1,
-        }
-    }
-
-    // The second axis's own call.
-    fn second(self) -> Call
-        ensures { result ≡ record { dt = self.dt; rate = self.rate2; moment = self.moment2 } }
-    {
-        Call {
-            dt: self.dt,
-            rate: self.rate2,
-            moment: self.moment2,
-        }
-    }
+    pub first: AxisReading,
+    pub second: AxisReading,
 }
 
 // ---- the rules
@@ -137,13 +131,10 @@ impl TwoAxisProbe {
         requires first { self.old.first.ticks < 16777216 }
         requires second { self.old.second.ticks < 16777216 }
         ensures answer { Ok (Some result) ≡ (two_ticked (axes elapsed1 elapsed2) (probes_of self.old) (lents_of lent1.old lent2.old) (two_call_of call)).answer }
-        ensures first { self.new.first ≡ (two_ticked (axes elapsed1 elapsed2) (probes_of self.old) (lents_of lent1.old lent2.old) (two_call_of call)).first }
-        ensures second { self.new.second ≡ (two_ticked (axes elapsed1 elapsed2) (probes_of self.old) (lents_of lent1.old lent2.old) (two_call_of call)).second }
-        ensures lent1 { Leaves lent1.old lent1.new (stored_in elapsed1 self.old.first (arrays_in lent1.old) (call_of (record { dt = call.dt; rate = call.rate1; moment = call.moment1 }))) }
-        ensures lent2 { Leaves lent2.old lent2.new (stored_in elapsed2 self.old.second (arrays_in lent2.old) (call_of (record { dt = call.dt; rate = call.rate2; moment = call.moment2 }))) }
+        ensures left { LeavesTwo self.old self.new lent1.old lent1.new lent2.old lent2.new (two_ticked (axes elapsed1 elapsed2) (probes_of self.old) (lents_of lent1.old lent2.old) (two_call_of call)) }
     {
-        let begun1 = identify::begin(self.first, elapsed1, lent1, call.first());
-        let begun2 = identify::begin(self.second, elapsed2, lent2, call.second());
+        let begun1 = identify::begin(self.first, elapsed1, lent1, call.first.call(call.dt));
+        let begun2 = identify::begin(self.second, elapsed2, lent2, call.second.call(call.dt));
         if (begun1.now_s < self.first.duration_s) & (begun2.now_s < self.second.duration_s) {
             *self = TwoAxisProbe {
                 first: run_on(self.first, begun1),

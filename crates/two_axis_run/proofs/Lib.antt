@@ -1,4 +1,3 @@
-pub mod Reading
 pub mod Runs
 pub mod Ran
 pub mod Words

@@ -1,1 +1,2 @@
 pub mod TwoAxisRun
+pub mod Calls

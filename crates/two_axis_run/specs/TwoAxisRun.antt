@@ -1,30 +1,27 @@
 -- The byte run of two axes: 02, request five, in the form of 01's "The byte run". "All fields 32-bit, big-endian."
-use Rattle.std.specs.Prelude.{ℕ, zero, suc, ◌+◌, ◌*◌, ◌/◌, ◌%◌, ◌≡◌, Bool, true, false, ◌&&◌, List, [], ◌∷◌, ◌++◌, leb, eqb, length}
+use Rattle.std.specs.Prelude.{ℕ, ◌≡◌, List, [], ◌∷◌, ◌++◌}
 use Rattle.account.specs.declared.IdentifyConfig.{IdentifyConfig}
-use Rattle.account.specs.Rules.{broken}
 use Rattle.account.specs.Probe.{Reply}
 use Rattle.account.specs.Claim.{account_delay}
 use Rattle.wire.specs.Words.{word_bytes, Ran}
 use Rattle.report.specs.Report.{Tells, TellsFinite}
 use Rattle.byte_config.specs.ByteConfig.{config_of}
-use Rattle.byte_run.specs.ByteRun.{reply_word, onto}
+use Rattle.batch.specs.declared.Sizes.{Sizes}
+use Rattle.batch.specs.Calls as batch
+use Rattle.batch.specs.Batch.{batch_run}
+use Rattle.byte_run.specs.ByteRun.{reply_word}
 use Rattle.two_axis.specs.Axes.{Axis, first, second, TwoCall}
 use Rattle.two_axis.specs.Probes.{fresh_two, replies_two}
 use Rattle.two_axis.specs.Accounts.{Accounts, opened_two, account_two}
-use Rattle.two_axis_probe.specs.declared.TwoAxisProbe.{TwoAxisProbe}
-use Rattle.window.specs.declared.LentArrays.{LentArrays}
-use Rattle.two_axis_probe.specs.Stepped.{probes_of, lents_of}
-use Rattle.two_axis_probe.specs.Held.{HoldsTwo}
 use Rattle.two_axis_report.specs.TwoReport.{report_two, reports_of, report_at, TellsSums}
 use Rattle.two_axis_calls.specs.Calls.{call_at}
 
--- the first n calls, 20 bytes each
-unfoldable pub calls_to : List ℕ → ℕ → List TwoCall
-calls_to bytes zero = []
-calls_to bytes (suc n) = calls_to bytes n ++ (call_at bytes (20 * n) ∷ [])
+-- the first n calls, and all
+abbrev pub calls_to : List ℕ → ℕ → List TwoCall
+calls_to bytes n = batch.calls_to 20 call_at bytes n
 
-unfoldable pub calls_of : List ℕ → List TwoCall
-calls_of bytes = calls_to bytes (length bytes / 20)
+abbrev pub calls_of : List ℕ → List TwoCall
+calls_of bytes = batch.calls_of 20 call_at bytes
 
 -- "and answers two offsets": two words a call, the first axis's and then the second's
 unfoldable pub in_turn : List Reply → List Reply → List ℕ
@@ -40,27 +37,12 @@ unfoldable pub written : IdentifyConfig → List TwoCall → List ℕ
 written c calls = report_two (reports_of (account_two (opened_two c) calls)) ++ word_bytes (words_of c calls)
 
 -- rule 9 for its own sizes: configuration not 24 bytes, calls not a multiple of 20, or output below 77 + 8 bytes a call
-unfoldable pub sized_two : List ℕ → List ℕ → List ℕ → Bool
-sized_two config calls output =
-    eqb (length config) 24 && eqb (length calls % 20) 0 && leb (77 + 8 * (length calls / 20)) (length output)
-
--- "9, and 1 to 5 in a byte run, write no byte"
-unfoldable pub ran : ℕ → IdentifyConfig → List TwoCall → List ℕ → Ran
-ran (suc n) c calls output = record { result = suc n; output = output }
-ran zero c calls output = record { result = 0; output = onto (written c calls) output }
-
--- 9 "precedes all"
-unfoldable pub run_if : Bool → List ℕ → List ℕ → List ℕ → Ran
-run_if false config calls output = record { result = 9; output = output }
-run_if true config calls output = ran (broken (config_of config)) (config_of config) (calls_of calls) output
+abbrev pub sizes : Sizes
+sizes = record { call = 20; answer = 8; report = 77 }
 
 -- "it returns 0, or the number of 1 to 5 or 9"
-unfoldable pub two_axis_run : List ℕ → List ℕ → List ℕ → Ran
-two_axis_run config calls output = run_if (sized_two config calls output) config calls output
-
--- after the calls in these bytes the probe and its arrays hold the two accounts
-abbrev pub HoldsAfter : IdentifyConfig → List ℕ → TwoAxisProbe → (lent1 lent2 : LentArrays) → Type 0
-HoldsAfter c bytes p lent1 lent2 = HoldsTwo c (calls_of bytes) (probes_of p) (lents_of lent1 lent2) (account_two (opened_two c) (calls_of bytes))
+unfoldable pub two_axis_run : (config calls output : List ℕ) → Ran
+two_axis_run config calls output = batch_run sizes (λ c bytes. written c (calls_of bytes)) config calls output
 
 -- the accounts of a run
 abbrev pub accounts_of : (config calls : List ℕ) → Accounts

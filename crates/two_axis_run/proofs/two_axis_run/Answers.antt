@@ -1,34 +1,16 @@
--- A run that no rule refuses tells what its account says.
-use mathlib.Core.Path.{◌≡◌, sym, ap, ◌∙◌}
-use Rattle.std.specs.Prelude.{Ok}
-use Rattle.account.specs.Rules.{broken}
-use Rattle.wire.specs.Words.{Ran}
-use Rattle.rules.specs.Numbers.{numbered, numbers}
-use Rattle.two_axis_probe.specs.Stepped.{two_opened_by}
-use Rattle.byte_config.specs.ByteConfig.{config_of}
-use Rattle.two_axis_run.proofs.Ran.{tells, run_started}
+-- A run that no rule refuses tells what its accounts say.
+use Rattle.two_axis_run.specs.TwoAxisRun.{two_axis_run}
+use Rattle.two_axis_run.proofs.Ran.{tells}
 use Rattle.two_axis_run.proofs.two_axis_run.Goals as goal
 
 pub returns-clause-delays : goal.returns-clause-delays
-unfolding numbered numbers
-returns-clause-delays c =
-    let a = c.args in
-    let opened : two_opened_by (broken (config_of a.config.now)) (config_of a.config.now) ≡ Ok c.in_ok-probe.probe = rw (← c.config_of.ensures, ← c.new.ensures, c.in_ok-probe.was) in
-    let (fresh, is) = run_started a.config.now a.calls.now a.output.now _ (sym c.is_sized.ensures ∙ c.if-not-is_sized.false) opened in
-    (tells a.config.now a.calls.now a.output.now (sym (ap (λ (x : Ran). x.result) is)) (c.run.ensures _ fresh ∙ sym (ap (λ (x : Ran). x.output) is))).0
+unfolding two_axis_run
+returns-clause-delays c h = (tells c.args.config.now c.args.calls.now c.args.output.now c.run.ensures.result c.run.ensures.output h).delays
 
 pub returns-clause-models : goal.returns-clause-models
-unfolding numbered numbers
-returns-clause-models c =
-    let a = c.args in
-    let opened : two_opened_by (broken (config_of a.config.now)) (config_of a.config.now) ≡ Ok c.in_ok-probe.probe = rw (← c.config_of.ensures, ← c.new.ensures, c.in_ok-probe.was) in
-    let (fresh, is) = run_started a.config.now a.calls.now a.output.now _ (sym c.is_sized.ensures ∙ c.if-not-is_sized.false) opened in
-    (tells a.config.now a.calls.now a.output.now (sym (ap (λ (x : Ran). x.result) is)) (c.run.ensures _ fresh ∙ sym (ap (λ (x : Ran). x.output) is))).1.0
+unfolding two_axis_run
+returns-clause-models c h = (tells c.args.config.now c.args.calls.now c.args.output.now c.run.ensures.result c.run.ensures.output h).models
 
 pub returns-clause-sums : goal.returns-clause-sums
-unfolding numbered numbers
-returns-clause-sums c =
-    let a = c.args in
-    let opened : two_opened_by (broken (config_of a.config.now)) (config_of a.config.now) ≡ Ok c.in_ok-probe.probe = rw (← c.config_of.ensures, ← c.new.ensures, c.in_ok-probe.was) in
-    let (fresh, is) = run_started a.config.now a.calls.now a.output.now _ (sym c.is_sized.ensures ∙ c.if-not-is_sized.false) opened in
-    (tells a.config.now a.calls.now a.output.now (sym (ap (λ (x : Ran). x.result) is)) (c.run.ensures _ fresh ∙ sym (ap (λ (x : Ran). x.output) is))).1.1
+unfolding two_axis_run
+returns-clause-sums c h = (tells c.args.config.now c.args.calls.now c.args.output.now c.run.ensures.result c.run.ensures.output h).sums

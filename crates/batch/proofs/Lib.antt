@@ -1,0 +1,3 @@
+pub mod Sizing
+pub mod Running
+pub mod Flying

@@ -1,0 +1,4 @@
+pub mod Sized
+pub mod Calls
+pub mod Batch
+pub mod Flown
