@@ -52,20 +52,13 @@ pub struct TwoCall {
 
 // ---- the rules
 
-// A call of one axis is turned back by the first of the rules 6 to 8 that it breaks.
-fn validate_axis(probe: IdentifyProbe, dt: f32) -> Result<(), Rule>
-    ensures { numbered result ≡ refusal (clock probe.status) probe.ticks dt }
-{
-    rules::validate_call(probe.status.clock(), probe.ticks, dt)
-}
-
 // A call is turned back for both axes: by the first one's rule, or else by the second one's.
 #[tactic(auto, unfolding(crate::specs::Stepped::either_number, rules::specs::Numbers::numbered), using(rules::proofs::Numbers::above_0))]
 fn validate_both(probe: TwoAxisProbe, dt: f32) -> Result<(), Rule>
     ensures { numbered result ≡ either_number (refusal (clock probe.first.status) probe.first.ticks dt) (refusal (clock probe.second.status) probe.second.ticks dt) }
 {
-    validate_axis(probe.first, dt)?;
-    validate_axis(probe.second, dt)
+    probe.first.validate(dt)?;
+    probe.second.validate(dt)
 }
 
 // ---- a call
@@ -142,18 +135,8 @@ impl TwoAxisProbe {
             };
             return (begun1.offset, begun2.offset);
         }
-        let readings1 = Readings {
-            window: begun1.window,
-            rates: lent1.rates,
-            moments: lent1.moments,
-            held: lent1.held,
-        };
-        let readings2 = Readings {
-            window: begun2.window,
-            rates: lent2.rates,
-            moments: lent2.moments,
-            held: lent2.held,
-        };
+        let readings1 = lent1.readings(begun1.window);
+        let readings2 = lent2.readings(begun2.window);
         let due1 = closing::due_at(begun1.now_s, self.first.duration_s, readings1);
         let due2 = closing::due_at(begun2.now_s, self.second.duration_s, readings2);
         *self = TwoAxisProbe {

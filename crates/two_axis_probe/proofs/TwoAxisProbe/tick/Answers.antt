@@ -39,13 +39,15 @@ returns-clause-left c =
     let hd = rw c.call-2.ensures at d.ensures.result in
     let kb = rw c.call.ensures at b.ensures.lent in
     let kd = rw c.call-2.ensures at d.ensures.lent in
-    let due1 = c.due_at-due1.ensures mb.offsets in
-    let due2 = c.due_at-due2.ensures md.offsets in
+    let q1 = c.readings-readings1.ensures in
+    let q2 = c.readings-readings2.ensures in
+    let due1 = rw (q1.window, q1.rates, q1.moments, q1.held) at (c.due_at-due1.ensures mb.offsets) in
+    let due2 = rw (q2.window, q2.rates, q2.moments, q2.held) at (c.due_at-due2.ensures md.offsets) in
     let wish1 = wished a.elapsed1 p.first lb a.call.dt a.call.first b.result mb _ hb kb.contents due1 in
     let wish2 = wished a.elapsed2 p.second ld a.call.dt a.call.second d.result md _ hd kd.contents due2 in
     record {
-      first = c.end_tick.ensures ∙ leaves a.elapsed1 p.first lb a.call.dt a.call.first b.result mb _ hb kb.contents due1 _ ∙ rw (c.asks.ensures, wish2);
-      second = c.end_tick-2.ensures ∙ leaves a.elapsed2 p.second ld a.call.dt a.call.second d.result md _ hd kd.contents due2 _ ∙ rw (c.asks-2.ensures, wish1);
+      first = rw (q1.window, q1.rates, q1.moments) at c.end_tick.ensures ∙ leaves a.elapsed1 p.first lb a.call.dt a.call.first b.result mb _ hb kb.contents due1 _ ∙ rw (c.asks.ensures, wish2);
+      second = rw (q2.window, q2.rates, q2.moments) at c.end_tick-2.ensures ∙ leaves a.elapsed2 p.second ld a.call.dt a.call.second d.result md _ hd kd.contents due2 _ ∙ rw (c.asks-2.ensures, wish1);
       lent1 = kb;
       lent2 = kd;
     }
