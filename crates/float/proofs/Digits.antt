@@ -1,5 +1,5 @@
 -- How many binary digits a number has.
-use Rattle.std.proofs.Common.{◌≡◌, ℕ, ◌+◌, ◌^◌, ◌<◌, ◌≤◌, Bool, true, false, not, T, ltb, ◌⊎◌, inl, inr, lt_of_lt_of_le, lt_of_not-le, not-le_of_lt, arith, ltb→lt, nltb→le, pow_mono}
+use Rattle.std.proofs.Common.{◌≡◌, ℕ, ◌+◌, ◌^◌, ◌<◌, ◌≤◌, lt_of_lt_of_le, lt_of_not-le, not-le_of_lt, arith, pow_mono}
 use lib.Ieee.{size}
 use lib.Ieee.Digits.{size-lt, size-le}
 

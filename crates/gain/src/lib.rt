@@ -129,7 +129,12 @@ fn leaky_changes(rates: &[f32; 2048], carry: f64, ticks: usize, ts: &mut [f64; 2
     requires { ticks ≤ 2037 }
     ensures { ts.new ≡ fill (series (through carry (change (at rates.now)))) ts.old ticks }
 {
-    leaky_sums(carry, ticks, ts, |i| f64::from(rates[11 + i] - rates[10 + i]));
+    leaky_sums(
+        carry,
+        ticks,
+        ts,
+        |i| f64::from(rates[11 + i] - rates[10 + i]),
+    );
 }
 
 // ---- the sums

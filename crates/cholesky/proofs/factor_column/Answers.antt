@@ -1,10 +1,8 @@
 -- A column is made entry by entry, each from its diagonal's root.
-use Rattle.std.proofs.Common.{rules, refl}
-use lib.ListN.{replicate}
-use lib.Ieee.{nan}
+use Rattle.std.proofs.Common.{rules}
 use Rattle.float.specs.Values.{zero32}
 use Rattle.float.proofs.Made.{made_new}
-use Rattle.cholesky.specs.Cholesky.{factor_entry, factor_column}
+use Rattle.cholesky.specs.Cholesky.{factor_entry}
 use Rattle.cholesky.proofs.factor_column.Goals as goal
 
 pub returns : goal.returns

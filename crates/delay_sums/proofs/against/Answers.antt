@@ -1,7 +1,5 @@
 -- `delay_sums::against` meets its contract: the sums are made term by term.
-use Rattle.std.proofs.Common.{rules, refl}
-use lib.ListN.{replicate}
-use lib.Ieee.{nan}
+use Rattle.std.proofs.Common.{rules}
 use Rattle.float.specs.Values.{zero32}
 use Rattle.float.proofs.Made.{made_new}
 use Rattle.delay_sums.specs.Delays.{cross_sum, place_of, against}

@@ -1,6 +1,5 @@
 -- `float::log_of` meets its contract: `Counted` has what its digits and its top are, and `log_high` and `log_low` what each branch works out.
 use Rattle.std.proofs.Common.{ℕ, ◌+◌, ◌-◌, ◌^◌, ◌≤◌, T, pos, ap, ◌∙◌, arith, le→leb, lit<}
-use lib.Count.{leading_le}
 use lib.Ieee.{binary64, in_float, of_int}
 use Rattle.float.specs.Narrow.{narrowed}
 use Rattle.float.proofs.Rounding.{zeros_of}

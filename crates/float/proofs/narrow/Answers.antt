@@ -1,5 +1,5 @@
 -- `float::narrow` meets its contract, a case for each of its returns: x is what its own bits say, and `NarrowFields` has what each exponent's field narrows to.
-use Rattle.std.proofs.Common.{◌≡◌, ◌/◌, ◌%◌, ◌^◌, not, T, leb, sym, ap, ◌∙◌, subst, inr, lit<, lit≤}
+use Rattle.std.proofs.Common.{◌≡◌, ◌/◌, ◌%◌, ◌^◌, not, T, leb, sym, ap, ◌∙◌, subst, lit≤}
 use lib.Ieee.{Float, binary64, of_bits, to_bits, of_fields, is_nan}
 use Rattle.float.specs.Narrow.{narrowed}
 use Rattle.float.proofs.Nan.{only_nan}

@@ -1,7 +1,6 @@
 -- `float::nearest` meets its contract: the value does not change as m is moved up (`same`), and from there a fixed number of digits is cut off,
 -- or, among the subnormals, as many as lie below the smallest value (`rounds`). Further down it is less than half of the smallest value.
 use Rattle.std.proofs.Common.{ℕ, ◌+◌, ◌-◌, ◌*◌, ◌^◌, ◌<◌, ◌≤◌, sym, refl, ap, ◌∙◌, subst, inl, inr, lt_of_lt_of_le, arith, lit<, lit≤, pow_mono}
-use lib.Count.{leading_le}
 use lib.Ieee.{binary32, units}
 use lib.Ieee.Nearest.{closest}
 use Rattle.float.proofs.Closest.{closest_zero, closest_le, closest_ge}

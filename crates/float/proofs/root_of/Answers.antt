@@ -1,6 +1,5 @@
 -- `float::root_of` meets its contract: `Scaled` has what the code's k and n are, and its last test picks the nearer of the whole root and the next number.
 use Rattle.std.proofs.Common.{ℕ, ◌*◌, ◌^◌, ◌<◌, ◌≤◌, false, sym, ap, ◌∙◌, subst, inr, lt_of_le_of_lt, zero-mul, arith}
-use lib.Count.{leading_le}
 use lib.Ieee.{binary32, units}
 use Rattle.whole_root.specs.Rounds.{Whole}
 use Rattle.whole_root.proofs.Squares.{square_lt}

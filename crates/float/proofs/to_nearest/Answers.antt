@@ -1,6 +1,5 @@
 -- `float::to_nearest` meets its contract: twice the rest is below the unit, above it or equal to it, as `closest` has it.
 use Rattle.std.proofs.Common.{ℕ, ◌%◌, ◌^◌, ◌<◌, ◌≤◌, sym, mod-lt, arith, pow_pos, pow_mono}
-use lib.Pow.{shr_le}
 use Rattle.float.proofs.Closest.{closest_down, closest_up, closest_tie, unit, rest}
 use Rattle.float.proofs.to_nearest.Goals as goal
 

@@ -1,5 +1,5 @@
 -- At its end the loop has filled the front of the list, and the rest stands behind it.
-use Rattle.std.proofs.Common.{◌≡◌, ◌≤◌, length, rules, ◌∙◌, ap, arith, ◌++◌, drop, refl}
+use Rattle.std.proofs.Common.{◌≡◌, ◌≤◌, length, ◌∙◌, ap, arith, ◌++◌, drop}
 use Rattle.float.proofs.Fill.{fill_front}
 use Rattle.gain.specs.Gain.{through}
 use Rattle.gain.proofs.leaky_sums.Goals as goal

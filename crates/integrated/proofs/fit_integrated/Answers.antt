@@ -1,6 +1,5 @@
 -- `integrated::fit_integrated` meets its contract: a window's fit reads its lists below its length alone (proofs/Prefix.antt).
-use Rattle.std.proofs.Common.{◌≡◌, ◌^◌, length, take, ◌∙◌, arith, length-take-le, le-leb}
-use lib.Ieee.{in_float}
+use Rattle.std.proofs.Common.{◌≡◌, length, take, ◌∙◌, arith, length-take-le}
 use Rattle.integrated.proofs.Prefix.{short, enough}
 use Rattle.integrated.proofs.fit_integrated.Goals as goal
 

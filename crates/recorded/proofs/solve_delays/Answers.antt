@@ -1,6 +1,5 @@
 -- The list is made delay by delay.
-use Rattle.std.proofs.Common.{rules, None, refl}
-use lib.ListN.{replicate}
+use Rattle.std.proofs.Common.{rules, None}
 use Rattle.float.proofs.Made.{made_new}
 use Rattle.recorded.specs.Stages.{solved_from, solved_list}
 use Rattle.recorded.proofs.solve_delays.Goals as goal

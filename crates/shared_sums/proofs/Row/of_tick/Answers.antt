@@ -1,7 +1,6 @@
 -- `shared_sums::Row::of_tick` meets its contract: each term is read where the definition reads it, and the moments are made one by one.
 use Rattle.std.proofs.Common.{rules, refl, ◌-◌}
-use lib.ListN.{replicate}
-use lib.Ieee.{of_bits, sub, nan}
+use lib.Ieee.{of_bits, sub}
 use Rattle.float.specs.Values.{zero32}
 use Rattle.float.specs.Series.{at}
 use Rattle.float.proofs.Made.{made_new}
