@@ -24,6 +24,7 @@ pub trait Flight {
     ghost use Rattle.batch.specs.declared.Sizes.{Sizes};
     ghost use Rattle.batch.specs.Flown.{StepsOn, Reports};
 
+    // The sizes of its run.
     ghost sizes: { Sizes };
 
     // Where a run of a configuration stands after the first calls of these bytes, as many as the number says.
@@ -46,6 +47,7 @@ pub trait Flight {
         requires { sizes.report ≤ length output.old }
         ensures { Reports sizes.call stands reported self.now output.old output.new };
 
+    // No call, no answer.
     ghost unanswered: { (c : IdentifyConfig) (calls : List ℕ) → answers c calls 0 ≡ [] };
 
     ghost report_size: { (c : IdentifyConfig) (calls : List ℕ) → length (reported c calls) ≡ sizes.report };

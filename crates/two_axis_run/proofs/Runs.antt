@@ -35,6 +35,7 @@ unfolding replies_two in_turn
 words_more p [] c = refl
 words_more p (x ∷ calls) c = ap (λ (ws : List ℕ). reply_word (step_two p x first).reply ∷ reply_word (step_two p x second).reply ∷ ws) (words_more (moved p x) calls c)
 
+-- who stands so holds the accounts
 stands_after : {c : IdentifyConfig} {calls : List TwoCall} {p : TwoAxisProbe} {lent1 lent2 : LentArrays} → Stands c calls (probes_of p) (lents_of lent1 lent2) → StandsAfter c calls p lent1 lent2
 stands_after s = record { stands = s; holds = holds s }
 

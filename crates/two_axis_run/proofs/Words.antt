@@ -13,6 +13,7 @@ use Rattle.std.specs.Prelude.{Option, Result}
 use lib.Ieee.{Float}
 use Rattle.two_axis_calls.specs.Calls.{call_at, answer_words, words_within}
 
+-- a call that is a part of all calls is the one that stands there
 pub call_in_part : (at : ℕ) (l : List ℕ) → call_at (take 20 (drop at l)) 0 ≡ call_at l at
 unfolding call_at
 call_in_part at l =
@@ -24,6 +25,7 @@ words_written a b l h =
     let long : length one ≡ length l = length_within 0 (bytes_of 4 a) l in
     rw (within 0 (word_bytes (a ∷ b ∷ [])) l (rw (length_words (a ∷ b ∷ [])) h), word_within 4 b one (omega arith), word_within 0 a l (omega arith), ← one_word a) (word_next 0 1 (a ∷ []) b l refl (omega arith))
 
+-- an answer's two words alone
 pub words_alone : (s : Result (Option (Float × Float)) ℕ) (l : List ℕ) → length l ≡ 8 → words_within s l ≡ word_bytes (answer_words s)
 words_alone s l e =
     let words = word_bytes (answer_words s) in
