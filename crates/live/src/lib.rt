@@ -137,7 +137,7 @@ pub extern "C" fn identify_live_status(
     ensures plain { plain.new ≡ status_plain (status_in words.now floats.now) }
     ensures delay { TellsDelay (scalars words.now floats.now) numbers.new }
 {
-    live_status::status(probe_words::status_of(words, floats), numbers, model, plain);
+    live_status::status(Scalars { words, floats }.status(), numbers, model, plain);
 }
 
 // The report of a probe, 36 bytes at the front of the output; an output of fewer stays as it is.
@@ -152,5 +152,5 @@ pub extern "C" fn identify_live_report(
     ensures output { WritesReport (scalars words.now floats.now) rates.now marks.now output.old output.new }
     ensures flown { ReportsFlight (scalars words.now floats.now) rates.now marks.now output.old output.new }
 {
-    live_probe::report(probe_words::probe_of(words, floats), rates, marks, output);
+    live_probe::report(Scalars { words, floats }.probe(), rates, marks, output);
 }

@@ -56,8 +56,8 @@ impl LentPair<'_> {
         ensures flown { PairFliesAnswering (pair_in self.old) (two_call_of call) result (pair_in self.new) }
     {
         let mut pair = TwoAxisProbe {
-            first: self.first.scalars.probe(),
-            second: self.second.scalars.probe(),
+            first: self.first.scalars.read().probe(),
+            second: self.second.scalars.read().probe(),
         };
         let Some((x, y)) = pair.step(&mut self.first.arrays, &mut self.second.arrays, call)? else {
             return Ok((0.0, 0.0));

@@ -2,9 +2,9 @@
 -- So it holds the account, and a byte run of the same calls writes its report and its answers.
 use Prim.Native.Nat.{ℕ, zero, suc, ◌≤◌}
 use mathlib.Core.Path.{◌≡◌, refl, sym, ap, ◌∙◌}
-use Rattle.std.specs.Prelude.{Option, Some, None, Result, Ok, Err}
+use Rattle.std.specs.Prelude.{Option, Some, None, Result, Ok}
 use Rattle.rules.specs.declared.Rule.{Rule}
-use mathlib.Core.List.{List, [], ◌∷◌, ◌++◌}
+use mathlib.Core.List.{List, []}
 use native.Mathlib.Omega.{arith}
 use lib.Ieee.{Float}
 use Rattle.window.specs.Samples.{capacity}
@@ -14,7 +14,7 @@ use Rattle.account.specs.Rules.{broken, refusal}
 use Rattle.account.specs.Probe.{Call, Probe, Reply, Step, number, clock, fresh, step, after, replies}
 use Rattle.account.specs.Account.{opened as opened_account, account}
 use Rattle.identify.specs.declared.IdentifyProbe.{IdentifyProbe}
-use Rattle.identify.specs.Seen.{seen, fresh_probe_at, fresh_probe, opened_by, Answer, ticked, answer_by, stepped_by, reply_of}
+use Rattle.identify.specs.Seen.{seen, fresh_probe_at, fresh_probe, opened_by, ticked, answer_by, stepped_by, reply_of}
 use Rattle.identify.specs.Made.{Made, by_new}
 use Rattle.identify.specs.Made as make
 use Rattle.identify.proofs.Stepping.{steps}

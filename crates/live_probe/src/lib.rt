@@ -37,11 +37,7 @@ pub fn config_by(
 }
 
 // Opens a probe in its scalars; the arrays of samples may hold anything. It is refused by 9 where an option has no meaning, or by the first of the rules 1 to 5 that is broken; then nothing is written.
-pub fn open(
-    lent: &mut LentScalars<'_>,
-    config: IdentifyConfig,
-    options: u32,
-) -> Result<(), Rule>
+pub fn open(lent: &mut LentScalars<'_>, config: IdentifyConfig, options: u32) -> Result<(), Rule>
     ensures opening { opening (numbered result) (scalars_in lent.new) ≡ live_open options config (scalars_in lent.old) }
     ensures same { SameScalars lent.old lent.new }
     ensures flown { OpensFlight config (numbered result) (scalars_in lent.new) }
@@ -71,7 +67,7 @@ impl LentProbe<'_> {
         ensures same { SameLent self.old self.new }
         ensures flown { StepsFlight (kept_in self.old) (call_of call) result (kept_in self.new) }
     {
-        let mut probe = self.scalars.probe();
+        let mut probe = self.scalars.read().probe();
         let Some(offset) = probe.step(&mut self.arrays, call)? else {
             return Ok(0.0);
         };
@@ -110,12 +106,7 @@ pub fn ready(scalars: Scalars<'_>, marks: &mut [u8; 2048], dt: f32)
 // ---- report
 
 // The report's 36 bytes at the front of a slice; a slice of fewer stays as it is.
-pub fn report(
-    probe: IdentifyProbe,
-    rates: &[f32; 2048],
-    marks: &[u8; 2048],
-    output: &mut [u8],
-)
+pub fn report(probe: IdentifyProbe, rates: &[f32; 2048], marks: &[u8; 2048], output: &mut [u8])
     ensures output { WritesReportOf probe rates.now marks.now output.old output.new }
     ensures flown { ReportsProbe probe rates.now marks.now output.old output.new }
 {

@@ -1,5 +1,4 @@
 -- What an opening and a step ensure follows from what they answer and leave.
-use mathlib.Core.Path.{◌≡◌}
 use Rattle.std.specs.Prelude.{ℕ, Float}
 use denote.Triple.Both.{Both}
 use Rattle.account.specs.declared.IdentifyConfig.{IdentifyConfig}

@@ -190,7 +190,7 @@ pub extern "C" fn identify_live_pair_status(
     ensures plain { plain.new ≡ status_plain (status_in words.now floats.now) }
     ensures delay { TellsAxisDelay (scalars words.now floats.now) numbers.new }
 {
-    live_status::status(probe_words::status_of(words, floats), numbers, model, plain);
+    live_status::status(Scalars { words, floats }.status(), numbers, model, plain);
 }
 
 // The report of both axes, 77 bytes at the front of a slice; a slice of fewer stays as it is.
@@ -209,9 +209,17 @@ pub extern "C" fn identify_live_pair_report(
     ensures output { WritesPairReport (scalars_read words1 floats1 words2 floats2) (both_read rates1 rates2) (both_read marks1 marks2) output.old output.new }
     ensures flown { ReportsPair (scalars_read words1 floats1 words2 floats2) (both_read rates1 rates2) (both_read marks1 marks2) output.old output.new }
 {
+    let scalars1 = Scalars {
+        words: words1,
+        floats: floats1,
+    };
+    let scalars2 = Scalars {
+        words: words2,
+        floats: floats2,
+    };
     let pair = TwoAxisProbe {
-        first: probe_words::probe_of(words1, floats1),
-        second: probe_words::probe_of(words2, floats2),
+        first: scalars1.probe(),
+        second: scalars2.probe(),
     };
     live_pair::report(pair, rates1, marks1, rates2, marks2, output);
 }

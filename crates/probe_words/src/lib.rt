@@ -52,7 +52,7 @@ fn status_by(kind: u32, half_ticks: u32, floats: &[f32; 14]) -> IdentifyStatus
 }
 
 // The status that any content of the two arrays stands for.
-pub fn status_of(words: &[u32; 8], floats: &[f32; 14]) -> IdentifyStatus
+fn status_of(words: &[u32; 8], floats: &[f32; 14]) -> IdentifyStatus
     ensures { result ≡ status_in words.now floats.now }
 {
     status_by(words[0], words[1], floats)
@@ -83,7 +83,7 @@ fn window_by(stored: u32, duration_s: f32) -> Window
 
 // The probe that any content of the two arrays stands for.
 #[tactic(auto, unfolding(crate::specs::Layout::probe_in))]
-pub fn probe_of(words: &[u32; 8], floats: &[f32; 14]) -> IdentifyProbe
+fn probe_of(words: &[u32; 8], floats: &[f32; 14]) -> IdentifyProbe
     ensures probe { result ≡ probe_in (scalars words.now floats.now) }
     ensures room { result.window.len ≤ capacity }
 {
@@ -122,9 +122,17 @@ pub struct Scalars<'a> {
 impl Scalars<'_> {
     #[tactic(auto, unfolding(crate::specs::Layout::probe_in))]
     pub fn status(self) -> IdentifyStatus
-        ensures { result ≡ (probe_in (read_in self.entry)).status }
+        ensures status { result ≡ status_in self.entry.words.now self.entry.floats.now }
+        ensures probe { result ≡ (probe_in (read_in self.entry)).status }
     {
         status_of(self.words, self.floats)
+    }
+
+    pub fn probe(self) -> IdentifyProbe
+        ensures probe { result ≡ probe_in (read_in self.entry) }
+        ensures room { result.window.len ≤ capacity }
+    {
+        probe_of(self.words, self.floats)
     }
 
     #[tactic(auto, unfolding(crate::specs::Layout::probe_in))]
@@ -150,18 +158,13 @@ pub struct LentScalars<'a> {
 }
 
 impl LentScalars<'_> {
-    // The status and the probe that stand in them.
-    #[tactic(auto, unfolding(crate::specs::Layout::probe_in))]
-    pub fn status(&self) -> IdentifyStatus
-        ensures { result ≡ (probe_in (scalars_in self.now)).status }
+    // The two arrays to read.
+    pub fn read(&self) -> Scalars<'_>
+        ensures { read_in result ≡ scalars_in self.now }
     {
-        status_of(self.words, self.floats)
-    }
-
-    pub fn probe(&self) -> IdentifyProbe
-        ensures probe { result ≡ probe_in (scalars_in self.now) }
-        ensures room { result.window.len ≤ capacity }
-    {
-        probe_of(self.words, self.floats)
+        Scalars {
+            words: self.words,
+            floats: self.floats,
+        }
     }
 }

@@ -55,8 +55,8 @@ pub fn step(
     ensures flown { PairFliesAnswering (value_over clock) (pair_lent lent) (two_call_of call) result }
     ensures plain { clock.old.steady ≡ 0 → PairAnswersPlain (value_over clock) (pair_lent lent) (two_call_of call) result }
 {
-    let running1 = steady_probe::is_running(lent.first.scalars.status());
-    let running2 = steady_probe::is_running(lent.second.scalars.status());
+    let running1 = steady_probe::is_running(lent.first.scalars.read().status());
+    let running2 = steady_probe::is_running(lent.second.scalars.read().status());
     let step = |lent: &mut LentPair<'_>| -> Result<(f32, f32), Rule>
         ensures flight { PairAnswers (pair_in lent.old) (two_call_of call) result (pair_in lent.new) }
         ensures same { SamePair lent.old lent.new }

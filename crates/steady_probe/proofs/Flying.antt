@@ -11,7 +11,7 @@ use Rattle.steady.specs.declared.Band.{Band}
 use Rattle.steady.specs.declared.SteadyClock.{SteadyClock}
 use Rattle.steady.specs.Band.{turns_back}
 use Rattle.steady.specs.Guarded.{Guarded, band_after, without, number_in, next_in, after_in, numbers_in}
-use Rattle.steady.specs.Kept.{band_in, first_after, clock, clock_band, clock_after}
+use Rattle.steady.specs.Kept.{band_in, first_after, clock, clock_band}
 use Rattle.steady.proofs.Guarded.{left}
 use Rattle.steady.proofs.Ends.{numbers_more, after_more, length_numbers, kept_end}
 use Rattle.steady.proofs.Kept.{band_kept}

@@ -11,7 +11,7 @@ use Rattle.account.proofs.Follow.{numbers}
 use Rattle.identify.specs.Seen.{seen}
 use Rattle.identify.proofs.Making.{makes}
 use Rattle.steady.specs.declared.Band.{Band}
-use Rattle.steady.specs.Guarded.{Guarded, next_in, numbers_in, without}
+use Rattle.steady.specs.Guarded.{Guarded, next_in, without}
 use Rattle.steady.specs.Steady.{dt_of, is_running, probe_runs, probe_number, probe_next, fresh_in, probe_in, reply_in, replies_in}
 use Rattle.steady.proofs.Ends.{length_numbers, kept_end}
 use Rattle.steady.proofs.Steady.{probe_not_ten, both, steady_accounted}

@@ -49,18 +49,14 @@ pub fn is_running(status: IdentifyStatus) -> bool
 }
 
 // One call: the offset, 0 of an ended probe. Where one of the rules 6, 10, 7 and 8 turns it back nothing is written.
-pub fn step(
-    lent: &mut LentProbe<'_>,
-    clock: &mut SteadyClock,
-    call: Call,
-) -> Result<f32, Rule>
+pub fn step(lent: &mut LentProbe<'_>, clock: &mut SteadyClock, call: Call) -> Result<f32, Rule>
     ensures flight { SteadyAnswers (value_over clock) (kept_lent lent) (call_of call) result }
     ensures clock { clock.new ≡ clock_after (numbered result) (runs_in (live_probe (kept_in lent.old))) call.dt clock.old }
     ensures same { SameLent lent.old lent.new }
     ensures flown { FliesAnswering (value_over clock) (kept_lent lent) (call_of call) result }
     ensures plain { clock.old.steady ≡ 0 → AnswersPlain (value_over clock) (kept_lent lent) (call_of call) result }
 {
-    let running = is_running(lent.scalars.status());
+    let running = is_running(lent.scalars.read().status());
     clock.guard(lent, running, call.dt, |lent| lent.step(call))
 }
 

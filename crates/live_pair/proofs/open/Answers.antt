@@ -1,11 +1,11 @@
 -- The options are told first, then the rules, and then both axes are written.
-use mathlib.Core.Path.{◌≡◌, refl}
+use mathlib.Core.Path.{◌≡◌}
 use Rattle.std.specs.Prelude.{Ok, Err}
 use Rattle.std.proofs.Common.{rules}
 use Rattle.account.specs.Rules.{broken}
 use Rattle.rules.specs.Numbers.{number_of, numbered, numbers}
-use Rattle.probe_words.specs.Layout.{Scalars, scalars_in}
-use Rattle.two_axis.specs.Axes.{Axis, axes}
+use Rattle.probe_words.specs.Layout.{scalars_in}
+use Rattle.two_axis.specs.Axes.{axes}
 use Rattle.two_axis_probe.specs.Stepped.{two_opened_by}
 use Rattle.two_axis_probe.proofs.Flying.{by_axis}
 use Rattle.live_pair.proofs.Stepping.{unknown, turned_away, opens}

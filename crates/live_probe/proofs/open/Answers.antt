@@ -1,6 +1,6 @@
 -- The options are told first, and then what the configuration opens.
-use mathlib.Core.Path.{◌≡◌, sym, ap, ◌∙◌}
-use Rattle.std.specs.Prelude.{Ok, Err}
+use mathlib.Core.Path.{◌≡◌, ap, ◌∙◌}
+use Rattle.std.specs.Prelude.{Ok}
 use Rattle.std.proofs.Common.{rules}
 use Rattle.rules.proofs.Numbers.{above_0}
 use Rattle.account.specs.Rules.{broken}
@@ -8,7 +8,7 @@ use Rattle.rules.specs.Numbers.{number_of, numbered, numbers}
 use Rattle.identify.specs.Seen.{opened_by}
 use Rattle.probe_words.specs.Layout.{scalars_in}
 use Rattle.live_probe.specs.Live.{opening, open_by, live_open}
-use Rattle.live_probe.proofs.Opening.{unknown, turned_away, opens}
+use Rattle.live_probe.proofs.Opening.{unknown, opens}
 use Rattle.live_probe.proofs.Flying.{begun}
 use Rattle.live_probe.proofs.open.Goals as goal
 

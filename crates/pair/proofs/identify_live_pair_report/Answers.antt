@@ -9,6 +9,6 @@ use Rattle.pair.proofs.identify_live_pair_report.Goals as goal
 pub returns-clause-output : goal.returns-clause-output
 returns-clause-output c =
     let a = c.args in
-    let read : Structs = probes_of (record { first = c.probe_of.result; second = c.probe_of-2.result }) in
+    let read : Structs = probes_of (record { first = c.probe.result; second = c.probe-2.result }) in
     let kept : Structs = λ x. probe_in (axes (scalars a.words1.now a.floats1.now) (scalars a.words2.now a.floats2.now) x) in
-    same_report read kept _ _ _ _ (by_axis _ c.probe_of.ensures.probe c.probe_of-2.ensures.probe) c.report.ensures.output
+    same_report read kept _ _ _ _ (by_axis _ c.probe.ensures.probe c.probe-2.ensures.probe) c.report.ensures.output

@@ -1,5 +1,5 @@
 -- `steady_pair::step` ensures it of the arrays, which are those that were lent, and of the clock, which a refused call leaves.
-use mathlib.Core.Path.{◌≡◌, ◌∙◌}
+use mathlib.Core.Path.{◌∙◌}
 use Rattle.std.proofs.Common.{rules}
 use Rattle.rules.specs.Numbers.{numbered}
 use Rattle.steady.proofs.Kept.{clock_stays}

@@ -19,8 +19,8 @@ returns-then-turns_back c =
     let a = c.args in
     let s : Axis → Scalars = axes (read_in a.scalars1) (read_in a.scalars2) in
     let running : c.is_running-running1.result && c.is_running-running2.result ≡ both_run s = ap₂ (λ (r t : Bool). r && t)
-        (c.is_running-running1.ensures ∙ ap (λ (t : IdentifyStatus). is_running (clock t)) c.status.ensures)
-        (c.is_running-running2.ensures ∙ ap (λ (t : IdentifyStatus). is_running (clock t)) c.status-2.ensures) in
+    (c.is_running-running1.ensures ∙ ap (λ (t : IdentifyStatus). is_running (clock t)) c.status.ensures.probe)
+    (c.is_running-running2.ensures ∙ ap (λ (t : IdentifyStatus). is_running (clock t)) c.status-2.ensures.probe) in
     let back : turns_back (clock_band a.clock) (both_run s) a.dt ≡ true = rw (← running) (sym c.turns_back.ensures ∙ c.if-turns_back.true) in
     let plain1 = pair_readied s first a.dt a.marks1.now in
     let plain2 = pair_readied s second a.dt a.marks2.now in
@@ -40,8 +40,8 @@ returns c =
     let a = c.args in
     let s : Axis → Scalars = axes (read_in a.scalars1) (read_in a.scalars2) in
     let running : c.is_running-running1.result && c.is_running-running2.result ≡ both_run s = ap₂ (λ (r t : Bool). r && t)
-        (c.is_running-running1.ensures ∙ ap (λ (t : IdentifyStatus). is_running (clock t)) c.status.ensures)
-        (c.is_running-running2.ensures ∙ ap (λ (t : IdentifyStatus). is_running (clock t)) c.status-2.ensures) in
+    (c.is_running-running1.ensures ∙ ap (λ (t : IdentifyStatus). is_running (clock t)) c.status.ensures.probe)
+    (c.is_running-running2.ensures ∙ ap (λ (t : IdentifyStatus). is_running (clock t)) c.status-2.ensures.probe) in
     let on : turns_back (clock_band a.clock) (both_run s) a.dt ≡ false = rw (← running) (sym c.turns_back.ensures ∙ c.if-turns_back.false) in
     let e = c.ready.ensures in
     record {

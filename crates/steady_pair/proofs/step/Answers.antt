@@ -4,6 +4,7 @@ use Rattle.std.specs.Prelude.{Bool, false, ◌&&◌}
 use Rattle.std.proofs.Common.{rules}
 use Rattle.account.specs.declared.IdentifyStatus.{IdentifyStatus}
 use Rattle.account.specs.Probe.{clock}
+use Rattle.probe_words.specs.Layout.{Scalars, probe_in}
 use Rattle.rules.specs.Numbers.{numbered}
 use Rattle.steady.specs.Band.{turns_back}
 use Rattle.steady.specs.Kept.{clock_band}
@@ -26,8 +27,8 @@ returns c =
     let next = pair_in g.new.kept in
     let both = c.is_running-running1.result && c.is_running-running2.result in
     let running : both ≡ pair_runs k = ap₂ (λ (r s : Bool). r && s)
-        (c.is_running-running1.ensures ∙ ap (λ (s : IdentifyStatus). is_running (clock s)) c.status.ensures)
-        (c.is_running-running2.ensures ∙ ap (λ (s : IdentifyStatus). is_running (clock s)) c.status-2.ensures) in
+    (c.is_running-running1.ensures ∙ ap (λ (s : IdentifyStatus). is_running (clock s)) (c.status.ensures.probe ∙ ap (λ (s : Scalars). (probe_in s).status) c.read.ensures))
+    (c.is_running-running2.ensures ∙ ap (λ (s : IdentifyStatus). is_running (clock s)) (c.status-2.ensures.probe ∙ ap (λ (s : Scalars). (probe_in s).status) c.read-2.ensures)) in
     let made : turns_back (clock_band a.clock.now) both a.call.dt ≡ false → PairAnswers k (two_call_of a.call) g.result next × SamePair a.lent.now g.new.kept = λ h. let r = g.ensures.made h in (search rules, search rules) in
     let told : SteadyPairAnswers (over a.clock.now g.new.self) (over k next) (two_call_of a.call) g.result = λ found.
     guard_says double a.clock.now g.new.self both k next (two_call_of a.call) g.result found (offsets_or g.result found) running (λ e. rw e refl)

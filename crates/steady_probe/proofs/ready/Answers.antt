@@ -14,7 +14,7 @@ pub returns-then-turns_back : goal.returns-then-turns_back
 returns-then-turns_back c =
     let a = c.args in
     let p = probe_in (read_in a.scalars) in
-    let running = c.is_running.ensures ∙ ap (λ (s : IdentifyStatus). is_running (clock s)) c.status.ensures in
+    let running = c.is_running.ensures ∙ ap (λ (s : IdentifyStatus). is_running (clock s)) c.status.ensures.probe in
     let plain = readied p a.dt a.marks.now in
     let alone = left_alone a.clock (runs_in p) a.dt plain a.marks.now (rw (← running) (sym c.turns_back.ensures ∙ c.if-turns_back.true)) in
     record { bytes = alone; marks = search rules; plain = λ h. alone ∙ readies_plain a.clock (runs_in p) a.dt plain a.marks.now h }
@@ -23,5 +23,5 @@ pub returns-clause-bytes : goal.returns-clause-bytes
 returns-clause-bytes c =
     let a = c.args in
     let p = probe_in (read_in a.scalars) in
-    let running = c.is_running.ensures ∙ ap (λ (s : IdentifyStatus). is_running (clock s)) c.status.ensures in
+    let running = c.is_running.ensures ∙ ap (λ (s : IdentifyStatus). is_running (clock s)) c.status.ensures.probe in
     c.ready.ensures.bytes ∙ readies a.clock (runs_in p) a.dt (readied p a.dt a.marks.now) a.marks.now (rw (← running) (sym c.turns_back.ensures ∙ c.if-turns_back.false))

@@ -6,6 +6,7 @@ use Rattle.account.specs.declared.IdentifyStatus.{IdentifyStatus}
 use Rattle.account.specs.Probe.{clock}
 use Rattle.steady.specs.Steady.{is_running}
 use Rattle.identify.specs.Seen.{call_of}
+use Rattle.probe_words.specs.Layout.{Scalars, probe_in}
 use Rattle.rules.specs.Numbers.{numbered}
 use Rattle.steady.specs.Band.{turns_back}
 use Rattle.steady.specs.Kept.{clock_band}
@@ -23,7 +24,7 @@ returns c =
     let g = c.guard in
     let k = kept_in a.lent.now in
     let next = kept_in g.new.kept in
-    let running = c.is_running-running.ensures ∙ ap (λ (s : IdentifyStatus). is_running (clock s)) c.status.ensures in
+    let running = c.is_running-running.ensures ∙ ap (λ (s : IdentifyStatus). is_running (clock s)) (c.status.ensures.probe ∙ ap (λ (s : Scalars). (probe_in s).status) c.read.ensures) in
     let made : turns_back (clock_band a.clock.now) c.is_running-running.result a.call.dt ≡ false → Stepped k (call_of a.call) g.result next × SameLent a.lent.now g.new.kept = λ h. let r = g.ensures.made h in (search rules, search rules) in
     let told : SteadyAnswers (over a.clock.now g.new.self) (over k next) (call_of a.call) g.result = λ found.
     guard_says single a.clock.now g.new.self c.is_running-running.result k next (call_of a.call) g.result found (value_or g.result found) running (λ e. rw e refl)
