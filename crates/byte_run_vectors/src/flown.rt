@@ -2,9 +2,12 @@
 // opens as steady. The memory holds values of no meaning before it is opened.
 #![tactic(auto)]
 
-use identify::Call;
+use identify::{Call, IdentifyProbe};
+use live_pair::LentPair;
+use live_probe::LentProbe;
+use probe_words::{LentScalars, Scalars};
 use rules::Rule;
-use two_axis_probe::{AxisReading, TwoCall};
+use two_axis_probe::{AxisReading, TwoAxisProbe, TwoCall};
 use window::LentArrays;
 use wire::{read_float, write_word};
 
@@ -12,12 +15,9 @@ const WORD: u32 = 0xa5a5_a5a5;
 
 const FLOAT: f32 = -1.5e30;
 
-// The word of a call: its offset, or 7FC00000 and the number of the rule that turned it back.
-fn word_by(answer: Result<(), Rule>, offset: f32) -> u32 {
-    match answer {
-        Ok(()) => float::to_word(offset),
-        Err(rule) => 0x7fc0_0000u32.wrapping_add(rule.number()),
-    }
+// The word of a call that a rule turned back: 7FC00000 and the rule's number.
+fn refused(rule: Rule) -> u32 {
+    0x7fc0_0000u32.wrapping_add(rule.number())
 }
 
 // The byte of each mark.
@@ -47,6 +47,36 @@ impl Memory {
             held: [true; 2048],
         }
     }
+
+    fn scalars(&mut self) -> LentScalars<'_> {
+        LentScalars {
+            words: &mut self.words,
+            floats: &mut self.floats,
+        }
+    }
+
+    fn lent(&mut self) -> LentProbe<'_> {
+        LentProbe {
+            scalars: LentScalars {
+                words: &mut self.words,
+                floats: &mut self.floats,
+            },
+            arrays: LentArrays {
+                rates: &mut self.rates,
+                moments: &mut self.moments,
+                offsets: &mut self.offsets,
+                held: &mut self.held,
+            },
+        }
+    }
+
+    fn probe(&self) -> IdentifyProbe {
+        let scalars = Scalars {
+            words: &self.words,
+            floats: &self.floats,
+        };
+        scalars.probe()
+    }
 }
 
 // A run of one axis, answered as `byte_run` answers it.
@@ -58,41 +88,25 @@ pub fn one_axis(options: u32, config: &[u8], calls: &[u8], output: &mut [u8]) ->
         return Err(Rule::Form);
     }
     let mut memory = Memory::new();
-    let mut steady = WORD;
-    let mut first_dt_s = FLOAT;
-    steady_probe::open(
-        &mut memory.words,
-        &mut memory.floats,
-        &mut steady,
-        &mut first_dt_s,
+    let mut clock = steady_probe::open(
+        &mut memory.scalars(),
         byte_config::config_of(config),
         options,
     )?;
-    let mut offset = 0.0f32;
     for (k, call) in calls.chunks_exact(12).enumerate() {
-        let answer = steady_probe::step(
-            &mut memory.words,
-            &mut memory.floats,
-            steady,
-            &mut first_dt_s,
-            &mut LentArrays {
-                rates: &mut memory.rates,
-                moments: &mut memory.moments,
-                offsets: &mut memory.offsets,
-                held: &mut memory.held,
-            },
-            Call {
-                dt: read_float(call, 0),
-                rate: read_float(call, 4),
-                moment: read_float(call, 8),
-            },
-            &mut offset,
-        );
-        write_word(output, 36 + 4 * k, word_by(answer, offset));
+        let call = Call {
+            dt: read_float(call, 0),
+            rate: read_float(call, 4),
+            moment: read_float(call, 8),
+        };
+        let word = match steady_probe::step(&mut memory.lent(), &mut clock, call) {
+            Ok(offset) => float::to_word(offset),
+            Err(rule) => refused(rule),
+        };
+        write_word(output, 36 + 4 * k, word);
     }
     live_probe::report(
-        &memory.words,
-        &memory.floats,
+        memory.probe(),
         &memory.rates,
         &bytes_of(memory.held),
         output,
@@ -110,40 +124,20 @@ pub fn two_axes(options: u32, config: &[u8], calls: &[u8], output: &mut [u8]) ->
     }
     let mut first = Memory::new();
     let mut second = Memory::new();
-    let mut steady = WORD;
-    let mut first_dt_s = FLOAT;
-    steady_pair::open(
-        &mut first.words,
-        &mut first.floats,
-        &mut second.words,
-        &mut second.floats,
-        &mut steady,
-        &mut first_dt_s,
+    let mut clock = steady_pair::open(
+        &mut first.scalars(),
+        &mut second.scalars(),
         byte_config::config_of(config),
         options,
     )?;
-    let mut offset1 = 0.0f32;
-    let mut offset2 = 0.0f32;
     for (k, call) in calls.chunks_exact(20).enumerate() {
+        let mut lent = LentPair {
+            first: first.lent(),
+            second: second.lent(),
+        };
         let answer = steady_pair::step(
-            &mut first.words,
-            &mut first.floats,
-            &mut LentArrays {
-                rates: &mut first.rates,
-                moments: &mut first.moments,
-                offsets: &mut first.offsets,
-                held: &mut first.held,
-            },
-            &mut second.words,
-            &mut second.floats,
-            &mut LentArrays {
-                rates: &mut second.rates,
-                moments: &mut second.moments,
-                offsets: &mut second.offsets,
-                held: &mut second.held,
-            },
-            steady,
-            &mut first_dt_s,
+            &mut lent,
+            &mut clock,
             TwoCall {
                 dt: read_float(call, 0),
                 first: AxisReading {
@@ -155,19 +149,22 @@ pub fn two_axes(options: u32, config: &[u8], calls: &[u8], output: &mut [u8]) ->
                     moment: read_float(call, 16),
                 },
             },
-            &mut offset1,
-            &mut offset2,
         );
-        write_word(output, 77 + 8 * k, word_by(answer, offset1));
-        write_word(output, 81 + 8 * k, word_by(answer, offset2));
+        let (word1, word2) = match answer {
+            Ok((x, y)) => (float::to_word(x), float::to_word(y)),
+            Err(rule) => (refused(rule), refused(rule)),
+        };
+        write_word(output, 77 + 8 * k, word1);
+        write_word(output, 81 + 8 * k, word2);
     }
+    let pair = TwoAxisProbe {
+        first: first.probe(),
+        second: second.probe(),
+    };
     live_pair::report(
-        &first.words,
-        &first.floats,
+        pair,
         &first.rates,
         &bytes_of(first.held),
-        &second.words,
-        &second.floats,
         &second.rates,
         &bytes_of(second.held),
         output,

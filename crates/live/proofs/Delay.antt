@@ -2,8 +2,8 @@
 use Prim.Native.Nat.{ℕ}
 use mathlib.Core.Path.{◌≡◌}
 use mathlib.Core.List.{List}
-use Rattle.probe_words.specs.Layout.{Scalars, probe_in}
-use Rattle.live_status.specs.Status.{status_in, status_numbers}
+use Rattle.probe_words.specs.Layout.{Scalars, status_in, probe_in}
+use Rattle.live_status.specs.Status.{status_numbers}
 use Rattle.live_status.proofs.Told.{told}
 use Rattle.live_probe.proofs.Flying.{flies}
 use Rattle.live.specs.Delay.{TellsDelay}

@@ -6,8 +6,8 @@ ghost use Rattle.std.specs.Prelude.{◌≡◌, ◌≢◌};
 ghost use Rattle.marks.specs.Marks.{KeepsMarks};
 ghost use Rattle.identify.specs.Seen.{call};
 ghost use Rattle.report.specs.Report.{floats_of};
-ghost use Rattle.probe_words.specs.Layout.{scalars, probe_in};
-ghost use Rattle.live_status.specs.Status.{status_in, status_numbers, status_plain};
+ghost use Rattle.probe_words.specs.Layout.{scalars, status_in, probe_in};
+ghost use Rattle.live_status.specs.Status.{status_numbers, status_plain};
 ghost use Rattle.live_probe.specs.Live.{config_by, readied};
 ghost use Rattle.live.specs.Delay.{TellsDelay};
 ghost use Rattle.live.specs.Lent.{live_over};
@@ -16,10 +16,14 @@ ghost use Rattle.steady_probe.specs.SteadyLive.{scalars_over, SteadyOpened, Stea
 ghost use Rattle.steady_probe.specs.SteadyFlown.{OpensSteady, OpensPlain, SteadyFliesOn, StepsPlain};
 
 use identify::Call;
+use live_probe::LentProbe;
+use probe_words::{LentScalars, Scalars};
+use steady::SteadyClock;
 use window::LentArrays;
 
 // Opens a probe in its scalars, plain or, with an option of 1, as steady; the arrays of samples, which the other calls take, may hold anything.
 // It answers 0; 9 where an option has no meaning; or the number of the first of the rules 1 to 5 that is broken. On a number nothing is written.
+#[tactic(auto, unfolding(rules::specs::Numbers::numbered, live_probe::specs::Live::value_or))]
 #[unsafe(no_mangle)]
 pub extern "C" fn identify_live_open(
     words: &mut [u32; 8],
@@ -46,7 +50,14 @@ pub extern "C" fn identify_live_open(
         extension_amplitude,
         extension_duration_s,
     );
-    rules::number_or_0(steady_probe::open(words, floats, steady, first_dt_s, config, options))
+    match steady_probe::open(&mut LentScalars { words, floats }, config, options) {
+        Ok(clock) => {
+            *steady = clock.steady;
+            *first_dt_s = clock.first_dt_s;
+            0
+        }
+        Err(rule) => rule.number(),
+    }
 }
 
 // Before a call that reads the marks each byte of them is made 0 or 1, and before any other, one that is turned back among them, nothing is written.
@@ -63,21 +74,23 @@ pub extern "C" fn identify_live_ready(
     ensures marks { KeepsMarks marks.old marks.new }
     ensures plain { steady ≡ 0 → marks.new ≡ readied (probe_in (scalars words.now floats.now)) dt marks.old }
 {
-    steady_probe::ready(words, floats, steady, first_dt_s, marks, dt);
+    let clock = SteadyClock { steady, first_dt_s };
+    steady_probe::ready(Scalars { words, floats }, clock, marks, dt);
 }
 
 // One call of a probe: the offset to add to the setpoint, 0 of an ended probe.
 // It answers 0, or the number of the first of the rules 6, 10, 7 and 8 that is broken; then nothing is written.
+#[tactic(auto, unfolding(rules::specs::Numbers::numbered, live_probe::specs::Live::value_or))]
 #[unsafe(no_mangle)]
-pub extern "C" fn identify_live_step(
-    words: &mut [u32; 8],
-    floats: &mut [f32; 14],
+pub extern "C" fn identify_live_step<'a>(
+    words: &'a mut [u32; 8],
+    floats: &'a mut [f32; 14],
     steady: u32,
     first_dt_s: &mut f32,
-    rates: &mut [f32; 2048],
-    moments: &mut [f32; 2048],
-    offsets: &mut [f32; 2048],
-    held: &mut [bool; 2048],
+    rates: &'a mut [f32; 2048],
+    moments: &'a mut [f32; 2048],
+    offsets: &'a mut [f32; 2048],
+    held: &'a mut [bool; 2048],
     dt: f32,
     rate: f32,
     moment: f32,
@@ -87,16 +100,27 @@ pub extern "C" fn identify_live_step(
     ensures flown { SteadyFliesOn steady first_dt_s (live_over words floats rates moments offsets held) (call dt rate moment) offset result }
     ensures plain { steady ≡ 0 → StepsPlain first_dt_s (live_over words floats rates moments offsets held) (call dt rate moment) offset result }
 {
-    let mut lent = LentArrays {
-        rates,
-        moments,
-        offsets,
-        held,
+    let mut lent = LentProbe {
+        scalars: LentScalars { words, floats },
+        arrays: LentArrays {
+            rates,
+            moments,
+            offsets,
+            held,
+        },
     };
-    let call = Call { dt, rate, moment };
-    rules::number_or_0(steady_probe::step(
-        words, floats, steady, first_dt_s, &mut lent, call, offset,
-    ))
+    let mut clock = SteadyClock {
+        steady,
+        first_dt_s: *first_dt_s,
+    };
+    match steady_probe::step(&mut lent, &mut clock, Call { dt, rate, moment }) {
+        Ok(x) => {
+            *offset = x;
+            *first_dt_s = clock.first_dt_s;
+            0
+        }
+        Err(rule) => rule.number(),
+    }
 }
 
 // Where a probe stands: its kind, its delay in half ticks, in whole ticks and the half tick left, whether it has plain units; the six floats of its status; lag and acceleration.
@@ -113,7 +137,7 @@ pub extern "C" fn identify_live_status(
     ensures plain { plain.new ≡ status_plain (status_in words.now floats.now) }
     ensures delay { TellsDelay (scalars words.now floats.now) numbers.new }
 {
-    live_status::status(words, floats, numbers, model, plain);
+    live_status::status(Scalars { words, floats }.status(), numbers, model, plain);
 }
 
 // The report of a probe, 36 bytes at the front of the output; an output of fewer stays as it is.
@@ -128,5 +152,5 @@ pub extern "C" fn identify_live_report(
     ensures output { WritesReport (scalars words.now floats.now) rates.now marks.now output.old output.new }
     ensures flown { ReportsFlight (scalars words.now floats.now) rates.now marks.now output.old output.new }
 {
-    live_probe::report(words, floats, rates, marks, output);
+    live_probe::report(Scalars { words, floats }.probe(), rates, marks, output);
 }

@@ -3,8 +3,8 @@ use Prim.Native.Nat.{ℕ}
 use mathlib.Core.Path.{◌≡◌, sym, ap, ◌∙◌}
 use mathlib.Core.List.{List}
 use Rattle.account.specs.Probe.{delay_of}
-use Rattle.probe_words.specs.Layout.{Scalars, probe_in}
-use Rattle.live_status.specs.Status.{status_in, status_numbers}
+use Rattle.probe_words.specs.Layout.{Scalars, status_in, probe_in}
+use Rattle.live_status.specs.Status.{status_numbers}
 use Rattle.live_status.proofs.Told.{told}
 use Rattle.live_pair.specs.Flown.{TellsAxisDelay}
 use Rattle.live_pair.proofs.Flying.{flies}

@@ -1,7 +1,8 @@
 -- What is flown stands as the definitions' two probes do after the same calls, since what is written is read back. So it holds the accounts.
 use Prim.Native.Nat.{ℕ, zero, suc, ◌≤◌}
 use mathlib.Core.Path.{◌≡◌, refl, sym, ap, ap₂, subst, subst₂, fun_ext, ◌∙◌}
-use Rattle.std.specs.Prelude.{Option, Some, None}
+use Rattle.std.specs.Prelude.{Option, Some, None, Result}
+use Rattle.rules.specs.declared.Rule.{Rule}
 use mathlib.Core.List.{List, [], ◌∷◌, ◌++◌}
 use native.Mathlib.Omega.{arith}
 use lib.Ieee.{Float}
@@ -28,8 +29,8 @@ use Rattle.two_axis_probe.proofs.Flying.{begins, holds, replies_on, goes_on}
 use Rattle.two_axis_report.specs.TwoReport.{report_two, reports_of}
 use Rattle.two_axis_report.proofs.Reported.{reported_two}
 use Rattle.two_axis_run.specs.TwoAxisRun.{in_turn, written}
-use Rattle.live_pair.specs.Pair.{Pair, PairOpening, PairFlight, pair_probes, pair_lents, pair_opening, pair_open_by, pair_open, scalars_after_two, offset_after_two, pair_step}
-use Rattle.live_pair.specs.Flown.{PairFlown, by_open, by_step, PairFlies}
+use Rattle.live_pair.specs.Pair.{Pair, PairOpening, PairFlight, pair_probes, pair_lents, pair_opening, pair_open_by, pair_open, scalars_after_two, offset_after_two, pair_step, PairAnswers}
+use Rattle.live_pair.specs.Flown.{PairFlown, by_open, by_step, PairFlies, PairFliesAnswering, WritesPairReportOf}
 
 -- an opening that answers 0 wrote the fresh probes
 opened_fresh : (b : ℕ) (c : IdentifyConfig) (s : Axis → Scalars) → (pair_open_by b c s).result ≡ 0 → (x : Axis) → (pair_open_by b c s).scalars x ≡ scalars_of (probes_of (fresh_two_axis c) x)
@@ -142,6 +143,9 @@ pub begun : (options : ℕ) (c : IdentifyConfig) (s t : Axis → Scalars) (n : �
 begun zero c s t n e z l w = flies (by_open s (rw z at e) w)
 begun (suc options) c s t n e z l w = absurd (let nine : n ≡ 9 = unfold pair_open in ap (λ (o : PairOpening). o.result) e in omega arith)
 
+pub flies_on : (k : Pair) (y : TwoCall) (r : Result (Float × Float) Rule) (next : Pair) → PairAnswers k y r next → PairFliesAnswering k y r next
+flies_on k y r next e found c calls answers f = flies (by_step found y f (e found))
+
 -- the report of what is flown, its marks read from their bytes, is the one that the accounts ask for
 pub reports : {c : IdentifyConfig} {calls : List TwoCall} {answers : Axis → List Reply} (s : Axis → Scalars) (l : Axis → Lent) (rates : Axis → List Float) (bytes : Axis → List ℕ)
     → PairFlown c calls answers (λ x. live (s x) (l x)) → ((x : Axis) → rates x ≡ (l x).rates) → ((x : Axis) → bytes x ≡ mark_bytes (l x).marks)
@@ -149,3 +153,8 @@ pub reports : {c : IdentifyConfig} {calls : List TwoCall} {answers : Axis → Li
 reports {c} {calls} s l rates bytes f er em =
     let same : (x : Axis) → lent (rates x) (l x).moments (l x).offsets (marks_by (bytes x)) ≡ l x = λ x. rw (er x, em x, marks_back (l x).marks) in
     ap report_two (fun_ext (λ x. ap (λ (m : Lent). of_probe (seen (probe_in (s x)) m)) (same x))) ∙ reported_two (flies f).holds.accounted
+
+-- the report of probes that are the same
+pub same_report : (p q : Structs) (rates : Axis → List Float) (marks : Axis → List ℕ) (output left : List ℕ) → ((x : Axis) → p x ≡ q x) → WritesPairReportOf p rates marks output left
+    → WritesPairReportOf q rates marks output left
+same_report p q rates marks output left same = subst (λ (r : Structs). WritesPairReportOf r rates marks output left) (fun_ext same)

@@ -1,17 +1,14 @@
 -- What `ready` leaves of the bytes of marks, by the tests of both axes.
-use Prim.Native.Nat.{ℕ, zero, suc}
+use Prim.Native.Nat.{ℕ}
 use mathlib.Core.Path.{◌≡◌, refl}
-use mathlib.Core.Bool.{true, false, ◌&&◌}
-use Rattle.std.specs.Prelude.{Option, Some, None, is_some}
-use lib.Dec.{eqb}
-use lib.Dec.{eqb-suc-zero}
+use mathlib.Core.Bool.{true, false}
 use mathlib.Core.List.{List}
 use lib.Ieee.{Float}
 use Rattle.probe_words.specs.Layout.{Scalars, probe_in}
 use Rattle.live_probe.specs.Live.{readied}
 use Rattle.marks.specs.Marks.{KeepsMarks}
 use Rattle.two_axis.specs.Axes.{Axis, first, second}
-use Rattle.live_pair.specs.Pair.{accepted_by, accepted, pair_readied}
+use Rattle.live_pair.specs.Pair.{accepted, pair_readied}
 
 module _ (s : Axis → Scalars) (dt : Float) where
   pub by_both : accepted (probe_in (s first)) dt ≡ true → accepted (probe_in (s second)) dt ≡ true → (x : Axis) (bytes : List ℕ) → readied (probe_in (s x)) dt bytes ≡ pair_readied s x dt bytes

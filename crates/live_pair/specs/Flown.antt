@@ -1,5 +1,5 @@
 -- A caller that opens a pair and steps it: what it then keeps of each axis is that axis's account, and what it was answered is the two-axis run's.
-use Rattle.std.specs.Prelude.{ℕ, ◌≡◌, List, [], ◌∷◌, ◌++◌, Float}
+use Rattle.std.specs.Prelude.{ℕ, ◌≡◌, Result, List, [], ◌∷◌, ◌++◌, Float}
 use denote.Triple.Both.{Both}
 use Rattle.window.specs.Lent.{Lent, Whole, lent}
 use Rattle.wire.specs.Words.{word_bytes, written_within}
@@ -11,16 +11,18 @@ use Rattle.identify.specs.Seen.{seen}
 use Rattle.probe_report.specs.ProbeReport.{of_probe, of_account}
 use Rattle.probe_words.specs.Layout.{Scalars, word, probe_in}
 use Rattle.marks.specs.Marks.{marks_by, mark_bytes}
-use Rattle.live_probe.specs.Live.{live}
+use Rattle.rules.specs.declared.Rule.{Rule}
+use Rattle.rules.specs.Numbers.{numbered}
+use Rattle.live_probe.specs.Live.{over, live}
 use Rattle.live_probe.specs.Flown.{reply_by}
 use Rattle.two_axis.specs.Axes.{Axis, first, second, TwoCall}
 use Rattle.two_axis.specs.Probes.{fresh_two, replies_two}
 use Rattle.two_axis.specs.Accounts.{opened_two, account_two}
-use Rattle.two_axis_probe.specs.Stepped.{seen_two}
+use Rattle.two_axis_probe.specs.Stepped.{Structs, seen_two}
 use Rattle.two_axis_probe.specs.Held.{HoldsTwo}
 use Rattle.two_axis_report.specs.TwoReport.{report_two}
 use Rattle.two_axis_run.specs.TwoAxisRun.{in_turn, written}
-use Rattle.live_pair.specs.Pair.{Pair, pair_probes, pair_lents, pair_opening, pair_open, pair_flight, pair_step}
+use Rattle.live_pair.specs.Pair.{Pair, pair_probes, pair_lents, pair_opening, pair_open, pair_flight, pair_step, offsets_or}
 
 -- Opened from c and stepped with these calls, in this order, with nothing written in between: each by what its contract ensures; and what the calls answered for each axis.
 pub data PairFlown (c : IdentifyConfig) : List TwoCall → (Axis → List Reply) → Pair → Type 0 where
@@ -49,10 +51,18 @@ PairFliesOn k y offset n =
     (c : IdentifyConfig) (calls : List TwoCall) (answers : Axis → List Reply) → PairFlown c calls answers k.entry
     → PairFlies c (calls ++ (y ∷ [])) (λ x. answers x ++ (reply_by n (offset.exit x) ∷ [])) k.exit
 
--- the report of any scalars and arrays, over the bytes that stood there; moments and offsets have no say
+-- as a call says it that answers r, whatever stood where the offsets go
+abbrev pub PairFliesAnswering : Pair → TwoCall → Result (Float × Float) Rule → Pair → Type 0
+PairFliesAnswering k y r next = (found : Axis → Float) → PairFliesOn (over k next) y (over found (offsets_or r found)) (numbered r)
+
+-- the report of any probes and arrays, over the bytes that stood there; moments and offsets have no say
+abbrev pub WritesPairReportOf : Structs → (Axis → List Float) → (Axis → List ℕ) → (output left : List ℕ) → Type 0
+WritesPairReportOf p rates marks output left =
+    (moments offsets : Axis → List Float) → left ≡ written_within 0 (report_two (λ x. of_probe (seen (p x) (lent (rates x) (moments x) (offsets x) (marks_by (marks x)))))) output
+
+-- of the probes in any scalars
 abbrev pub WritesPairReport : (Axis → Scalars) → (Axis → List Float) → (Axis → List ℕ) → (output left : List ℕ) → Type 0
-WritesPairReport s rates marks output left =
-    (moments offsets : Axis → List Float) → left ≡ written_within 0 (report_two (λ x. of_probe (seen (probe_in (s x)) (lent (rates x) (moments x) (offsets x) (marks_by (marks x)))))) output
+WritesPairReport s rates marks output left = WritesPairReportOf (λ x. probe_in (s x)) rates marks output left
 
 -- and of what was flown: the one that the accounts ask for
 abbrev pub ReportsPair : (Axis → Scalars) → (Axis → List Float) → (Axis → List ℕ) → (output left : List ℕ) → Type 0
@@ -60,6 +70,10 @@ ReportsPair s rates marks output left =
     (c : IdentifyConfig) (calls : List TwoCall) (answers : Axis → List Reply) (l : Axis → Lent) → PairFlown c calls answers (λ x. live (s x) (l x))
     → ((x : Axis) → rates x ≡ (l x).rates) → ((x : Axis) → marks x ≡ mark_bytes (l x).marks)
     → left ≡ written_within 0 (report_two (λ x. of_account (account_two (opened_two c) calls x))) output
+
+-- of any scalars that hold the probes
+abbrev pub ReportsPairOf : Structs → (Axis → List Float) → (Axis → List ℕ) → (output left : List ℕ) → Type 0
+ReportsPairOf p rates marks output left = (s : Axis → Scalars) → ((x : Axis) → probe_in (s x) ≡ p x) → ReportsPair s rates marks output left
 
 -- the three numbers of a delay in the status of an axis of what was flown: those of the account's delay
 abbrev pub TellsAxisDelay : Scalars → List ℕ → Type 0

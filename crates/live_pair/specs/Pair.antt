@@ -4,14 +4,17 @@ use Rattle.std.specs.Borrow.{Bor}
 use denote.Triple.Both.{Both}
 use Rattle.std.specs.Prelude.{Option, Some, None, Result, Ok, Err}
 use Rattle.float.specs.Values.{zero32}
-use Rattle.window.specs.declared.LentArrays.{LentArrays}
 use Rattle.window.specs.Lent.{Borrowed}
 use Rattle.account.specs.declared.IdentifyConfig.{IdentifyConfig}
 use Rattle.account.specs.Rules.{broken, refusal}
 use Rattle.account.specs.Probe.{number, clock}
 use Rattle.identify.specs.declared.IdentifyProbe.{IdentifyProbe}
-use Rattle.probe_words.specs.Layout.{Scalars, scalars, found_in, left_in, probe_in, scalars_of}
-use Rattle.live_probe.specs.Live.{Written, Live, live, live_found, live_left, live_probe, readied}
+use Rattle.probe_words.specs.Layout.{Scalars, scalars, scalars_in, found_in, left_in, probe_in, scalars_of}
+use Rattle.probe_words.specs.declared.LentScalars.{LentScalars}
+use Rattle.live_probe.specs.Live.{Written, over, Live, live, live_probe, kept_in, SameLent, Opening, opening, Flight, flight, readied}
+use Rattle.rules.specs.declared.Rule.{Rule}
+use Rattle.rules.specs.Numbers.{numbered}
+use Rattle.live_pair.specs.declared.LentPair.{LentPair}
 use Rattle.two_axis.specs.Axes.{Axis, first, second, axes, TwoCall}
 use Rattle.two_axis_probe.specs.Stepped.{Structs, Lents, probes_of, fresh_two_axis, probes_left, lents_left, two_stepped_by, reply_two}
 
@@ -33,12 +36,17 @@ scalars_over words1 floats1 words2 floats2 = record {
   exit = axes (left_in words1 floats1) (left_in words2 floats2);
 }
 
--- all that is kept of both
-abbrev pub kept_over : Borrowed ℕ → Borrowed Float → Written LentArrays → Borrowed ℕ → Borrowed Float → Written LentArrays → Both Pair Pair
-kept_over words1 floats1 lent1 words2 floats2 lent2 = record {
-  entry = axes (live_found words1 floats1 lent1) (live_found words2 floats2 lent2);
-  exit = axes (live_left words1 floats1 lent1) (live_left words2 floats2 lent2);
-}
+-- the same, from the structs that lend them, and all that is kept
+abbrev pub scalars_lent : Written LentScalars → Written LentScalars → Both (Axis → Scalars) (Axis → Scalars)
+scalars_lent lent1 lent2 = over (axes (scalars_in lent1.entry.now) (scalars_in lent2.entry.now)) (axes (scalars_in lent1.exit.now) (scalars_in lent2.exit.now))
+
+abbrev pub pair_in : LentPair → Pair
+pair_in a = axes (kept_in a.first) (kept_in a.second)
+
+-- the arrays are those that they were, whatever a call left in them
+pub record SamePair (before after : LentPair) : Type 0 where
+  pub first : SameLent before.first after.first
+  pub second : SameLent before.second after.second
 
 -- where the offsets go
 abbrev pub offsets_over : (offset1 offset2 : Written Float) → Both (Axis → Float) (Axis → Float)
@@ -55,13 +63,11 @@ abbrev pub both_read : {A : Type 0} → Read A → Read A → Axis → List A
 both_read lent1 lent2 = axes lent1.entry.now lent2.entry.now
 
 -- ---- open
--- what an opening answers, and the scalars as it leaves them
-pub record PairOpening : Type 0 where
-  pub result : ℕ
-  pub scalars : Axis → Scalars
+abbrev pub PairOpening : Type 0
+PairOpening = Opening (Axis → Scalars)
 
 abbrev pub pair_opening : ℕ → (Axis → Scalars) → PairOpening
-pair_opening n s = record { result = n; scalars = s }
+pair_opening n s = opening n s
 
 -- 1 to 5 leave the scalars as they were
 unfoldable pub pair_open_by : ℕ → IdentifyConfig → (Axis → Scalars) → PairOpening
@@ -78,14 +84,12 @@ abbrev pub PairOpened : ℕ → IdentifyConfig → Both (Axis → Scalars) (Axis
 PairOpened options c s n = pair_opening n s.exit ≡ pair_open options c s.entry
 
 -- ---- step
--- what a call answers, the offsets where they go, and all that the caller keeps as the call leaves it
-pub record PairFlight : Type 0 where
-  pub result : ℕ
-  pub offset : Axis → Float
-  pub left : Pair
+-- a call answers a number, and leaves the offsets where they go and all that the caller keeps
+abbrev pub PairFlight : Type 0
+PairFlight = Flight (Axis → Float) Pair
 
 abbrev pub pair_flight : ℕ → (Axis → Float) → Pair → PairFlight
-pair_flight n offset k = record { result = n; offset = offset; left = k }
+pair_flight n offset k = flight n offset k
 
 -- an axis's scalars, which are written where the pair moves on, and its offset's place: a refused call, and one after the end, leave the scalars; the offset is then left, or 0
 unfoldable pub scalars_after_two : Result (Option (Float × Float)) ℕ → Structs → Axis → Scalars → Scalars
@@ -107,6 +111,15 @@ pair_step k c found =
 -- a call of what is kept here, with its offsets here, answers n
 abbrev pub PairStepped : Both Pair Pair → TwoCall → Both (Axis → Float) (Axis → Float) → ℕ → Type 0
 PairStepped k c offset n = pair_flight n offset.exit k.exit ≡ pair_step k.entry c offset.entry
+
+-- the offsets' places after an answer, which a refused call leaves as they were
+unfoldable pub offsets_or : Result (Float × Float) Rule → (Axis → Float) → Axis → Float
+offsets_or (Ok x) found = axes x.0 x.1
+offsets_or (Err r) found = found
+
+-- a call of what is kept answers r and leaves `next`, whatever stands where the offsets go
+abbrev pub PairAnswers : Pair → TwoCall → Result (Float × Float) Rule → Pair → Type 0
+PairAnswers k c r next = (found : Axis → Float) → pair_flight (numbered r) (offsets_or r found) next ≡ pair_step k c found
 
 -- ---- marks
 -- whether an axis runs and no rule turns its call back, by the number and the elapsed time

@@ -3,15 +3,15 @@
 
 ghost use Rattle.std.specs.Prelude.{◌≡◌};
 ghost use Rattle.marks.specs.Marks.{KeepsMarks};
-ghost use Rattle.account.specs.Rules.{refusal};
 ghost use Rattle.rules.specs.Numbers.{numbered};
-ghost use Rattle.identify.specs.Seen.{call_of, SameArrays};
-ghost use Rattle.probe_words.specs.Layout.{scalars, found_in, left_in, probe_in};
-ghost use Rattle.live_probe.specs.Live.{live_found, live_left, config_by, opening, live_open, flight, live_step, reads_marks, readied};
-ghost use Rattle.live_probe.specs.Flown.{OpensFlight, FliesOn, WritesReport, ReportsFlight};
+ghost use Rattle.identify.specs.Seen.{call_of};
+ghost use Rattle.probe_words.specs.Layout.{scalars_in, read_in, SameScalars, probe_in};
+ghost use Rattle.live_probe.specs.Live.{kept_in, SameLent, config_by, opening, live_open, Stepped, reads_in, readied};
+ghost use Rattle.live_probe.specs.Flown.{OpensFlight, StepsFlight, WritesReportOf, ReportsProbe};
 
 use account::IdentifyConfig;
 use identify::{Call, IdentifyProbe};
+use probe_words::{LentScalars, Scalars};
 use rules::Rule;
 use window::LentArrays;
 
@@ -37,72 +37,68 @@ pub fn config_by(
 }
 
 // Opens a probe in its scalars; the arrays of samples may hold anything. It is refused by 9 where an option has no meaning, or by the first of the rules 1 to 5 that is broken; then nothing is written.
-pub fn open(
-    words: &mut [u32; 8],
-    floats: &mut [f32; 14],
-    config: IdentifyConfig,
-    options: u32,
-) -> Result<(), Rule>
-    ensures opening { opening (numbered result) (left_in words floats) ≡ live_open options config (found_in words floats) }
-    ensures flown { OpensFlight config (numbered result) (left_in words floats) }
+pub fn open(lent: &mut LentScalars<'_>, config: IdentifyConfig, options: u32) -> Result<(), Rule>
+    ensures opening { opening (numbered result) (scalars_in lent.new) ≡ live_open options config (scalars_in lent.old) }
+    ensures same { SameScalars lent.old lent.new }
+    ensures flown { OpensFlight config (numbered result) (scalars_in lent.new) }
 {
     if options != 0 {
         return Err(Rule::Form);
     }
     let probe = IdentifyProbe::new(config)?;
-    probe_writing::write_probe(words, floats, probe);
+    probe_writing::write_probe(lent, probe);
     Ok(())
 }
 
 // ---- step
 
-// One call. The offset is 0 of an ended probe. Where a rule turns the call back nothing is written.
-#[tactic(auto, unfolding(crate::specs::Live::live_step, crate::specs::Live::scalars_after, crate::specs::Live::offset_after, identify::specs::Seen::reply_of, account::specs::Probe::number, rules::specs::Numbers::numbered, rules::specs::Numbers::numbers))]
-pub fn step(
-    words: &mut [u32; 8],
-    floats: &mut [f32; 14],
-    lent: &mut LentArrays<'_>,
-    call: Call,
-    offset: &mut f32,
-) -> Result<(), Rule>
-    ensures flight { flight (numbered result) offset.new (live_left words floats lent) ≡ live_step (live_found words floats lent) (call_of call) offset.old }
-    ensures same { SameArrays lent.old lent.new }
-    ensures flown { FliesOn (live_found words floats lent) (call_of call) (numbered result) offset.new (live_left words floats lent) }
-{
-    let mut probe = probe_words::probe_of(words, floats);
-    let Some(x) = probe.step(lent, call)? else {
-        *offset = 0.0;
-        return Ok(());
-    };
-    probe_writing::write_probe(words, floats, probe);
-    *offset = x;
-    Ok(())
+// All that a caller keeps of a probe, as it lends it to a call: the scalars, and the arrays of its samples.
+#[derive(Drop)]
+pub struct LentProbe<'a> {
+    pub scalars: LentScalars<'a>,
+    pub arrays: LentArrays<'a>,
+}
+
+impl LentProbe<'_> {
+    // One call: the offset, 0 of an ended probe. Where a rule turns the call back nothing is written.
+    #[tactic(auto, unfolding(crate::specs::Live::live_step, crate::specs::Live::scalars_after, crate::specs::Live::offset_after, crate::specs::Live::value_or, identify::specs::Seen::reply_of, account::specs::Probe::number, rules::specs::Numbers::numbered, rules::specs::Numbers::numbers))]
+    pub fn step(&mut self, call: Call) -> Result<f32, Rule>
+        ensures flight { Stepped (kept_in self.old) (call_of call) result (kept_in self.new) }
+        ensures same { SameLent self.old self.new }
+        ensures flown { StepsFlight (kept_in self.old) (call_of call) result (kept_in self.new) }
+    {
+        let mut probe = self.scalars.read().probe();
+        let Some(offset) = probe.step(&mut self.arrays, call)? else {
+            return Ok(0.0);
+        };
+        probe_writing::write_probe(&mut self.scalars, probe);
+        Ok(offset)
+    }
 }
 
 // ---- marks
 
 // Whether a call reads the marks: the probe runs, the call does not end before the end time, and no rule turns it back. The test that most calls fail comes first.
 #[tactic(auto, unfolding(crate::specs::Live::reads_marks, rules::specs::Numbers::numbered), using(rules::proofs::Numbers::above_0))]
-fn reads_marks(clock: Option<f32>, ticks: u32, end_s: f32, dt: f32) -> bool
-    ensures { result ≡ reads_marks (refusal clock ticks dt) clock end_s dt }
+fn reads_marks(scalars: Scalars<'_>, dt: f32) -> bool
+    ensures { result ≡ reads_in (probe_in (read_in scalars.entry)) dt }
 {
+    let clock = scalars.status().clock();
     let Some(elapsed_s) = clock else {
         return false;
     };
-    if elapsed_s + dt < end_s {
+    if elapsed_s + dt < scalars.end_s() {
         return false;
     }
-    rules::validate_call(clock, ticks, dt).is_ok()
+    rules::validate_call(clock, scalars.ticks(), dt).is_ok()
 }
 
 // Before a call that reads the marks each byte of them is made 0 or 1, and before any other nothing is written. The marks that they stand for stay.
-pub fn ready(words: &[u32; 8], floats: &[f32; 14], marks: &mut [u8; 2048], dt: f32)
-    ensures bytes { marks.new ≡ readied (probe_in (scalars words.now floats.now)) dt marks.old }
+pub fn ready(scalars: Scalars<'_>, marks: &mut [u8; 2048], dt: f32)
+    ensures bytes { marks.new ≡ readied (probe_in (read_in scalars.entry)) dt marks.old }
     ensures marks { KeepsMarks marks.old marks.new }
 {
-    let status = probe_words::status_by(words[0], words[1], floats);
-    let clock = status.clock();
-    if reads_marks(clock, words[2], floats[0], dt) {
+    if reads_marks(scalars, dt) {
         marks::settle(marks);
     }
 }
@@ -110,17 +106,10 @@ pub fn ready(words: &[u32; 8], floats: &[f32; 14], marks: &mut [u8; 2048], dt: f
 // ---- report
 
 // The report's 36 bytes at the front of a slice; a slice of fewer stays as it is.
-pub fn report(
-    words: &[u32; 8],
-    floats: &[f32; 14],
-    rates: &[f32; 2048],
-    marks: &[u8; 2048],
-    output: &mut [u8],
-)
-    ensures output { WritesReport (scalars words.now floats.now) rates.now marks.now output.old output.new }
-    ensures flown { ReportsFlight (scalars words.now floats.now) rates.now marks.now output.old output.new }
+pub fn report(probe: IdentifyProbe, rates: &[f32; 2048], marks: &[u8; 2048], output: &mut [u8])
+    ensures output { WritesReportOf probe rates.now marks.now output.old output.new }
+    ensures flown { ReportsProbe probe rates.now marks.now output.old output.new }
 {
-    let probe = probe_words::probe_of(words, floats);
     let held = marks::held_by(marks);
     report::write_report(output, probe_report::report_of(probe, rates, &held));
 }

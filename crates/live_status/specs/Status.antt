@@ -8,11 +8,6 @@ use Rattle.account.specs.declared.IdentifyStatus.{IdentifyStatus}
 use Rattle.account.specs.Probe.{delay_of}
 use Rattle.report.specs.Report.{kind_of}
 use Rattle.byte_units.specs.ByteUnits.{status_units}
-use Rattle.probe_words.specs.Layout.{word, status_by}
-
--- the status that the scalars hold
-abbrev pub status_in : List ℕ → List Float → IdentifyStatus
-status_in words floats = status_by (word words 0) (word words 1) floats
 
 unfoldable pub has_units : Option Plain → ℕ
 has_units None = 0

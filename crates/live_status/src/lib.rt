@@ -4,7 +4,7 @@
 ghost use Rattle.std.specs.Prelude.{◌≡◌};
 ghost use Rattle.report.specs.Report.{floats_of};
 ghost use Rattle.byte_units.specs.ByteUnits.{status_units};
-ghost use Rattle.live_status.specs.Status.{status_in, status_numbers, status_plain};
+ghost use Rattle.live_status.specs.Status.{status_numbers, status_plain};
 
 use account::IdentifyStatus;
 use units::Plain;
@@ -23,17 +23,15 @@ fn units_of(status: IdentifyStatus) -> Option<Plain>
 // Where the probe stands: its kind, its delay in half ticks, the delay's whole ticks and its half tick, whether it has plain units; the six floats of its status; lag and acceleration.
 #[tactic(auto, unfolding(crate::specs::Status::status_numbers, crate::specs::Status::status_plain, crate::specs::Status::has_units, crate::specs::Status::units_or_zeros))]
 pub fn status(
-    words: &[u32; 8],
-    floats: &[f32; 14],
+    status: IdentifyStatus,
     numbers: &mut [u32; 5],
     model: &mut [f32; 6],
     plain: &mut [f32; 2],
 )
-    ensures numbers { numbers.new ≡ status_numbers (status_in words.now floats.now) }
-    ensures model { model.new ≡ floats_of (status_in words.now floats.now) }
-    ensures plain { plain.new ≡ status_plain (status_in words.now floats.now) }
+    ensures numbers { numbers.new ≡ status_numbers status }
+    ensures model { model.new ≡ floats_of status }
+    ensures plain { plain.new ≡ status_plain status }
 {
-    let status = probe_words::status_by(words[0], words[1], floats);
     let delay = report::kept_delay(status);
     let units = units_of(status);
     let both = units.unwrap_or(Plain {

@@ -1,6 +1,6 @@
 -- A probe's scalars as its caller keeps them: eight words, and fourteen floats, of which the last six are those of its status, as a report has them.
 -- What stands where, and what any content of the two is read as.
-use Rattle.std.specs.Prelude.{ℕ, zero, suc, min, Bool, true, false, not, List, [], ◌∷◌, eqb, get_or, Float}
+use Rattle.std.specs.Prelude.{ℕ, zero, suc, ◌≡◌, min, Bool, true, false, not, List, [], ◌∷◌, eqb, get_or, Float}
 use Rattle.float.specs.Values.{zero32}
 use Rattle.float.specs.Series.{at}
 use Rattle.sweep.specs.declared.SquareSweep.{SquareSweep}
@@ -15,6 +15,8 @@ use Rattle.account.specs.declared.IdentifyStatus.{IdentifyStatus}
 use Rattle.account.specs.declared.IdentifyStatus.TheVariants.{Running, Done, Unexcited, Saturated}
 use Rattle.account.specs.Probe.{delay_of}
 use Rattle.identify.specs.declared.IdentifyProbe.{IdentifyProbe}
+use Rattle.probe_words.specs.declared.LentScalars.{LentScalars}
+use Rattle.probe_words.specs.declared.Scalars as declared
 use Rattle.report.specs.Report.{kind_of, floats_of}
 
 pub record Scalars : Type 0 where
@@ -33,6 +35,23 @@ found_in words floats = scalars words.entry.now floats.entry.now
 
 abbrev pub left_in : Borrowed ℕ → Borrowed Float → Scalars
 left_in words floats = scalars words.exit.now floats.exit.now
+
+-- what stands in the structs of the two arrays
+abbrev pub read_in : declared.Scalars → Scalars
+read_in a = scalars a.words.now a.floats.now
+
+abbrev pub scalars_in : LentScalars → Scalars
+scalars_in a = scalars a.words.now a.floats.now
+
+-- what a call leaves in them is s, and they are the arrays that they were
+pub record LeavesScalars (before after : LentScalars) (s : Scalars) : Type 0 where
+  pub contents : scalars_in after ≡ s
+  pub words : after.words.ghost_name ≡ before.words.ghost_name
+  pub floats : after.floats.ghost_name ≡ before.floats.ghost_name
+
+-- they are the arrays that they were, whatever a call left in them
+abbrev pub SameScalars : (before after : LentScalars) → Type 0
+SameScalars before after = LeavesScalars before after (scalars_in after)
 
 -- ---- read
 abbrev pub word : List ℕ → ℕ → ℕ
@@ -61,6 +80,10 @@ status_by (suc zero) halves l = Done (model_by halves l)
 status_by (suc (suc zero)) halves l = Unexcited
 status_by (suc (suc (suc kind))) halves l = Saturated
 
+-- the status that they hold
+abbrev pub status_in : List ℕ → List Float → IdentifyStatus
+status_in words floats = status_by (word words 0) (word words 1) floats
+
 abbrev pub sweep_by : List ℕ → List Float → SquareSweep
 sweep_by words floats = record {
   amplitude = at floats 3;
@@ -79,7 +102,7 @@ unfoldable pub probe_in : Scalars → IdentifyProbe
 probe_in s = record {
   duration_s = at s.floats 0;
   noisy = noisy_by (word s.words 5) (at s.floats 1) (at s.floats 2);
-  status = status_by (word s.words 0) (word s.words 1) s.floats;
+  status = status_in s.words s.floats;
   sweep = sweep_by s.words s.floats;
   window = window_by (word s.words 3) (at s.floats 7);
   ticks = word s.words 2;

@@ -3,10 +3,11 @@
 
 ghost use Rattle.std.specs.Prelude.{◌≡◌, ◌≤◌};
 ghost use Rattle.window.specs.Samples.{capacity};
-ghost use Rattle.probe_words.specs.Layout.{left_in, probe_in, words_of, floats_in, scalars_of};
+ghost use Rattle.probe_words.specs.Layout.{scalars_in, LeavesScalars, probe_in, words_of, floats_in, scalars_of};
 
 use account::IdentifyExtension;
 use identify::IdentifyProbe;
+use probe_words::LentScalars;
 
 #[tactic(auto, unfolding(probe_words::specs::Layout::words_of, probe_words::specs::Layout::extension_flag, window::specs::Arrays::stored_of))]
 fn words_of(probe: IdentifyProbe) -> [u32; 8]
@@ -50,10 +51,10 @@ fn floats_of(probe: IdentifyProbe) -> [f32; 14]
 
 // The probe's scalars into the two arrays.
 #[tactic(auto, using(probe_words::proofs::Back::back))]
-pub fn write_probe(words: &mut [u32; 8], floats: &mut [f32; 14], probe: IdentifyProbe)
-    ensures scalars { left_in words floats ≡ scalars_of probe }
-    ensures back { probe.window.len ≤ capacity → probe_in (left_in words floats) ≡ probe }
+pub fn write_probe(lent: &mut LentScalars<'_>, probe: IdentifyProbe)
+    ensures scalars { LeavesScalars lent.old lent.new (scalars_of probe) }
+    ensures back { probe.window.len ≤ capacity → probe_in (scalars_in lent.new) ≡ probe }
 {
-    *words = words_of(probe);
-    *floats = floats_of(probe);
+    *lent.words = words_of(probe);
+    *lent.floats = floats_of(probe);
 }

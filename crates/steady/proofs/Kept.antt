@@ -3,10 +3,14 @@ use mathlib.Core.Path.{◌≡◌, refl, sym, ap}
 use Rattle.std.specs.Prelude.{ℕ, zero, suc, Bool, true, false, Float}
 use Rattle.std.specs.Float.Ieee.{lt}
 use Rattle.float.specs.Values.{zero32}
+use Rattle.rules.specs.declared.Rule.{Rule}
+use Rattle.rules.specs.Numbers.{number_of}
+use Rattle.rules.proofs.Numbers.{above_0}
 use Rattle.steady.specs.declared.Band.TheVariants.{Plain}
+use Rattle.steady.specs.declared.SteadyClock.{SteadyClock}
 use Rattle.steady.specs.Band.{keeps}
 use Rattle.steady.specs.Guarded.{band_after}
-use Rattle.steady.specs.Kept.{around, band_in, first_after}
+use Rattle.steady.specs.Kept.{around, band_in, first_after, clock_after}
 
 pub plain_after : (n : ℕ) (r : Bool) (dt : Float) → band_after n r Plain dt ≡ Plain
 unfolding band_after keeps
@@ -33,3 +37,8 @@ pub band_kept : (w n : ℕ) (r : Bool) (first dt : Float) → (n ≡ 0 → lt ze
 unfolding band_in
 band_kept zero n r first dt h = sym (plain_after n r dt)
 band_kept (suc w) n r first dt h = steady_after (lt zero32 first) w n r first dt refl h
+
+-- a refused call leaves the clock as it was
+pub clock_stays : (r : Rule) (running : Bool) (dt : Float) (w : SteadyClock) → clock_after (number_of r) running dt w ≡ w
+unfolding first_after
+clock_stays r running dt w = rw (above_0 r) refl

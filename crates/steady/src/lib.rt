@@ -1,10 +1,15 @@
 // A probe opened as steady, which tests each dt against its first accepted one: the definitions, for one axis and for two, and what
-// holds over every list of calls. What a caller keeps for it is a word and a float.
+// holds over every list of calls. What a caller keeps for it is a word and a float, and any plain call goes behind the test.
 #![tactic(auto)]
 
-ghost use Rattle.std.specs.Prelude.{◌≡◌};
+ghost use Rattle.std.specs.Prelude.{◌≡◌, true, false, Err};
+ghost use Rattle.std.specs.Fn.{FnOnceReturnsAtMut};
+ghost use Rattle.rules.specs.declared.Rule.TheVariants.{UnevenDt};
+ghost use Rattle.rules.specs.Numbers.{numbered};
 ghost use Rattle.steady.specs.Band.{uneven, turns_back};
-ghost use Rattle.steady.specs.Kept.{band_in, first_after};
+ghost use Rattle.steady.specs.Kept.{opened_clock, first_after, clock_band, clock_after};
+
+use rules::Rule;
 
 // How a probe takes an uneven clock: opened plain, it takes any; opened as steady, it tests each dt against the first accepted
 // one, once there is one.
@@ -13,20 +18,6 @@ pub enum Band {
     Plain,
     Steady,
     Around(f32),
-}
-
-// The band of the word and the float that a caller keeps.
-#[tactic(auto, unfolding(crate::specs::Kept::band_in, crate::specs::Kept::around))]
-pub fn band_of(steady: u32, first_dt_s: f32) -> Band
-    ensures { result ≡ band_in steady first_dt_s }
-{
-    if steady == 0 {
-        return Band::Plain;
-    }
-    if first_dt_s > 0.0 {
-        return Band::Around(first_dt_s);
-    }
-    Band::Steady
 }
 
 #[tactic(auto, unfolding(crate::specs::Band::uneven, crate::specs::Band::outside))]
@@ -41,7 +32,7 @@ fn is_uneven(band: Band, dt: f32) -> bool
 
 // Whether 10 turns a call back.
 #[tactic(auto, unfolding(crate::specs::Band::turns_back))]
-pub fn turns_back(band: Band, running: bool, dt: f32) -> bool
+fn turns_back(band: Band, running: bool, dt: f32) -> bool
     ensures { result ≡ turns_back band running dt }
 {
     running & (rules::is_positive(dt) & is_uneven(band, dt))
@@ -49,7 +40,7 @@ pub fn turns_back(band: Band, running: bool, dt: f32) -> bool
 
 // The first dt after an accepted call of a probe that ran or had ended.
 #[tactic(auto, unfolding(crate::specs::Kept::first_after))]
-pub fn first_after(band: Band, running: bool, first_dt_s: f32, dt: f32) -> f32
+fn first_after(band: Band, running: bool, first_dt_s: f32, dt: f32) -> f32
     ensures { result ≡ first_after 0 running band first_dt_s dt }
 {
     if !running {
@@ -58,5 +49,72 @@ pub fn first_after(band: Band, running: bool, first_dt_s: f32, dt: f32) -> f32
     match band {
         Band::Steady => dt,
         Band::Plain | Band::Around(_) => first_dt_s,
+    }
+}
+
+// What a caller keeps for the test: a word, not 0 where the probe is steady, and its first accepted dt, none where it is not above 0.
+#[derive(Clone, Copy)]
+pub struct SteadyClock {
+    pub steady: u32,
+    pub first_dt_s: f32,
+}
+
+impl SteadyClock {
+    // The clock that an option opens with, of 1 a steady one, of 0 a plain one; no other has a meaning. No dt is accepted yet.
+    #[tactic(auto, unfolding(crate::specs::Kept::opened_clock))]
+    pub fn new(options: u32) -> Result<SteadyClock, Rule>
+        ensures { result ≡ opened_clock options }
+    {
+        if options > 1 {
+            return Err(Rule::Form);
+        }
+        Ok(SteadyClock {
+            steady: options,
+            first_dt_s: 0.0,
+        })
+    }
+
+    #[tactic(auto, unfolding(crate::specs::Kept::band_in, crate::specs::Kept::around))]
+    fn band(self) -> Band
+        ensures { result ≡ clock_band self }
+    {
+        if self.steady == 0 {
+            return Band::Plain;
+        }
+        if self.first_dt_s > 0.0 {
+            return Band::Around(self.first_dt_s);
+        }
+        Band::Steady
+    }
+
+    // Whether 10 turns a call back.
+    pub fn turns_back(self, running: bool, dt: f32) -> bool
+        ensures { result ≡ turns_back (clock_band self) running dt }
+    {
+        turns_back(self.band(), running, dt)
+    }
+
+    // A plain call behind the test: 10 turns it back, or it is made, and then the first dt is kept of one that is accepted.
+    #[tactic(auto, unfolding(crate::specs::Kept::first_after, rules::specs::Numbers::numbered), using(rules::proofs::Numbers::above_0))]
+    pub fn guard<K, T, F: FnOnce(&mut K) -> Result<T, Rule>>(
+        &mut self,
+        kept: &mut K,
+        running: bool,
+        dt: f32,
+        call: F,
+    ) -> Result<T, Rule>
+        requires { F.IsAlwaysCallable call }
+        ensures turned { turns_back (clock_band self.old) running dt ≡ true → (result ≡ Err UnevenDt) × (kept.new ≡ kept.old) }
+        ensures made { turns_back (clock_band self.old) running dt ≡ false → FnOnceReturnsAtMut F.FnOnce call kept.old result kept.new }
+        ensures clock { self.new ≡ clock_after (numbered result) running dt self.old }
+    {
+        let band = self.band();
+        if turns_back(band, running, dt) {
+            return Err(Rule::UnevenDt);
+        }
+        let first_dt_s = first_after(band, running, self.first_dt_s, dt);
+        let answer = call(kept)?;
+        self.first_dt_s = first_dt_s;
+        Ok(answer)
     }
 }

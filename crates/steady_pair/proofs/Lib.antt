@@ -1,4 +1,1 @@
-pub mod Lists
 pub mod SteadyPairFlying
-pub mod Calls
-pub mod Plain

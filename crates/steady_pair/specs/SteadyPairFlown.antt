@@ -1,62 +1,43 @@
 -- A caller that opens a pair, plain or as steady, and steps it: what it then keeps and what it was answered are those of the plain pair over the calls that 10 did not turn back.
-use Rattle.std.specs.Prelude.{ℕ, ◌≡◌, List, [], ◌∷◌, ◌++◌, Float}
+use Rattle.std.specs.Prelude.{ℕ, Result, List, Float}
 use denote.Triple.Both.{Both}
-use Rattle.window.specs.Lent.{Lent, Whole}
 use Rattle.account.specs.declared.IdentifyConfig.{IdentifyConfig}
 use Rattle.account.specs.Probe.{Reply}
+use Rattle.rules.specs.declared.Rule.{Rule}
+use Rattle.rules.specs.Numbers.{numbered}
 use Rattle.two_axis.specs.Axes.{Axis, TwoCall}
 use Rattle.probe_words.specs.Layout.{Scalars}
-use Rattle.steady.specs.Guarded.{without}
-use Rattle.steady.specs.Kept.{band_in}
-use Rattle.steady.specs.TwoSteady.{opened_two_in, turned_two_in, account_two_in, even_two_calls, fresh_two_in, probes_in, replies_two_in, SteadyTwoAccounted}
-use Rattle.live_probe.specs.Live.{Written, live}
-use Rattle.live_probe.specs.Flown.{reply_by}
-use Rattle.steady_probe.specs.SteadyFlown.{start}
-use Rattle.live_pair.specs.Pair.{Pair, pair_opening, PairOpened, pair_flight, PairStepped}
-use Rattle.live_pair.specs.Flown.{PairFlown, PairFlies, OpensPair, PairFliesOn}
-use Rattle.steady_pair.specs.SteadyPair.{steady_pair_opening, steady_pair_open, steady_pair_flight, steady_pair_step}
+use Rattle.steady.specs.declared.SteadyClock.{SteadyClock}
+use Rattle.live_probe.specs.Live.{Written, over}
+use Rattle.live_pair.specs.Pair.{Pair, offsets_or}
+use Rattle.steady_probe.specs.Behind as behind
+use Rattle.steady_probe.specs.SteadyLive.{clock_over, clock_of, value_over}
+use Rattle.steady_pair.specs.SteadyPair.{double}
 
--- Opened from c and stepped with these calls, in this order, with nothing written in between: each by what its contract ensures; and what the calls answered for each axis.
-pub data SteadyPairFlown (c : IdentifyConfig) (steady : ℕ) : List TwoCall → (Axis → List Reply) → Pair → Float → Type 0 where
-  -- the scalars, the word, the first dt and the arrays hold anything
-  by_open : (options found : ℕ) (before : Float) (s : Axis → Scalars) {t : Axis → Scalars} {dt : Float} {l : Axis → Lent}
-      → steady_pair_opening (pair_opening 0 t) steady dt ≡ steady_pair_open options c s found before → ((x : Axis) → Whole (l x))
-      → SteadyPairFlown c steady [] (λ x. []) (λ x. live (t x) (l x)) dt
-  by_step : {calls : List TwoCall} {answers : Axis → List Reply} {k next : Pair} {dt later : Float} {n : ℕ} {offset : Axis → Float} (found : Axis → Float) (y : TwoCall)
-      → SteadyPairFlown c steady calls answers k dt
-      → steady_pair_flight (pair_flight n offset next) later ≡ steady_pair_step steady dt k y found
-      → SteadyPairFlown c steady (calls ++ (y ∷ [])) (λ x. answers x ++ (reply_by n (offset x) ∷ [])) next later
+abbrev pub SteadyPairFlown : IdentifyConfig → ℕ → List TwoCall → (Axis → List Reply) → Pair → Float → Type 0
+SteadyPairFlown c steady calls answers k dt = behind.FlownBehind double c steady calls answers k dt
 
-pub record SteadyPairFlies (c : IdentifyConfig) (steady : ℕ) (calls : List TwoCall) (answers : Axis → List Reply) (k : Pair) (dt : Float) : Type 0 where
-  -- the claim of the definitions, for this opening and these calls
-  pub accounted : SteadyTwoAccounted (start steady) c calls (probes_in (fresh_two_in (start steady) c) calls) (account_two_in (opened_two_in (start steady) c) calls)
-  -- the first dt that is kept is that of the accounts
-  pub tested : band_in steady dt ≡ (account_two_in (opened_two_in (start steady) c) calls).band
-  pub answered : (x : Axis) → answers x ≡ replies_two_in (fresh_two_in (start steady) c) calls x
-  -- what is kept was flown by the calls that 10 did not turn back, with their answers: so it is the accounts', and answers and report are the two-axis run's
-  pub flown : PairFlown c (even_two_calls (start steady) c calls) (λ x. without 10 (turned_two_in (opened_two_in (start steady) c) calls) (answers x)) k
-  pub flies : PairFlies c (even_two_calls (start steady) c calls) (λ x. without 10 (turned_two_in (opened_two_in (start steady) c) calls) (answers x)) k
+abbrev pub SteadyPairFlies : IdentifyConfig → ℕ → List TwoCall → (Axis → List Reply) → Pair → Float → Type 0
+SteadyPairFlies c steady calls answers k dt = behind.FliesBehind double c steady calls answers k dt
 
--- ---- as the contracts of the calls ensure it
 -- an opening of c in these scalars that answered n and left this word and this first dt, whatever the arrays hold
 abbrev pub OpensSteadyPair : IdentifyConfig → Both (Axis → Scalars) (Axis → Scalars) → Written ℕ → Written Float → ℕ → Type 0
-OpensSteadyPair c s steady dt n =
-    n ≡ 0 → (l : Axis → Lent) → ((x : Axis) → Whole (l x)) → SteadyPairFlies c steady.exit.now [] (λ x. []) (λ x. live (s.exit x) (l x)) dt.exit.now
+OpensSteadyPair c s steady dt n = behind.OpensBehind double c s (clock_over steady dt) n
 
 -- a call y of what was flown and is kept here, with this first dt, which answered n and these offsets
 abbrev pub SteadyPairFliesOn : ℕ → Written Float → Both Pair Pair → TwoCall → Both (Axis → Float) (Axis → Float) → ℕ → Type 0
-SteadyPairFliesOn steady dt k y offset n =
-    (c : IdentifyConfig) (calls : List TwoCall) (answers : Axis → List Reply) → SteadyPairFlown c steady calls answers k.entry dt.entry.now
-    → SteadyPairFlies c steady (calls ++ (y ∷ [])) (λ x. answers x ++ (reply_by n (offset.exit x) ∷ [])) k.exit dt.exit.now
+SteadyPairFliesOn steady dt k y offset n = behind.FliesOnBehind double (clock_of steady dt) k y offset n
 
--- ---- "A probe opened without the word behaves as before.", as the contracts of the calls ensure it
--- an opening of c in these scalars, with options other than 1, answered n: the plain opening
-pub record OpensPlainPair (options : ℕ) (c : IdentifyConfig) (s : Both (Axis → Scalars) (Axis → Scalars)) (n : ℕ) : Type 0 where
-  pub opened : PairOpened options c s n
-  pub flown : OpensPair c s n
+-- as a function says it that answers the offsets in r
+abbrev pub PairFliesAnswering : Both SteadyClock SteadyClock → Both Pair Pair → TwoCall → Result (Float × Float) Rule → Type 0
+PairFliesAnswering w k y r = (found : Axis → Float) → behind.FliesOnBehind double w k y (over found (offsets_or r found)) (numbered r)
 
--- a call y of what is kept here, with a word of 0, answered n and these offsets: the plain call, and the first dt stays
-pub record StepsPlainPair (dt : Written Float) (k : Both Pair Pair) (y : TwoCall) (offset : Both (Axis → Float) (Axis → Float)) (n : ℕ) : Type 0 where
-  pub stepped : PairStepped k y offset n
-  pub flown : PairFliesOn k y offset n
-  pub tested : dt.exit.now ≡ dt.entry.now
+-- ---- "A probe opened without the word behaves as before."
+abbrev pub OpensPlainPair : ℕ → IdentifyConfig → Both (Axis → Scalars) (Axis → Scalars) → ℕ → Type 0
+OpensPlainPair options c s n = behind.OpensPlain double options c s n
+
+abbrev pub StepsPlainPair : Written Float → Both Pair Pair → TwoCall → Both (Axis → Float) (Axis → Float) → ℕ → Type 0
+StepsPlainPair dt k y offset n = behind.StepsPlain double (value_over dt) k y offset n
+
+abbrev pub PairAnswersPlain : Both SteadyClock SteadyClock → Both Pair Pair → TwoCall → Result (Float × Float) Rule → Type 0
+PairAnswersPlain w k y r = (found : Axis → Float) → behind.StepsPlain double (over w.entry.first_dt_s w.exit.first_dt_s) k y (over found (offsets_or r found)) (numbered r)

@@ -4,109 +4,88 @@
 ghost use Rattle.std.specs.Prelude.{◌≡◌, ◌≢◌};
 ghost use Rattle.marks.specs.Marks.{KeepsMarks};
 ghost use Rattle.rules.specs.Numbers.{numbered};
-ghost use Rattle.identify.specs.Seen.{SameArrays};
-ghost use Rattle.two_axis.specs.Axes.{first, second};
+ghost use Rattle.probe_words.specs.Layout.{read_in, SameScalars};
+ghost use Rattle.two_axis.specs.Axes.{first, second, axes};
 ghost use Rattle.two_axis_probe.specs.Stepped.{two_call_of};
-ghost use Rattle.live_pair.specs.Pair.{scalars_over, kept_over, offsets_over, scalars_read, pair_readied};
-ghost use Rattle.steady_pair.specs.SteadyPair.{SteadyPairOpened, both_run, SteadyPairStepped, steady_pair_readied};
-ghost use Rattle.steady_pair.specs.SteadyPairFlown.{OpensSteadyPair, OpensPlainPair, SteadyPairFliesOn, StepsPlainPair};
+ghost use Rattle.steady.specs.Kept.{clock_after};
+ghost use Rattle.live_pair.specs.Pair.{scalars_lent, pair_in, PairAnswers, SamePair, pair_readied};
+ghost use Rattle.steady_probe.specs.Behind.{AnswersOpening, OpensAnswering};
+ghost use Rattle.steady_probe.specs.SteadyLive.{value_over};
+ghost use Rattle.steady_pair.specs.SteadyPair.{double, pair_runs, pair_lent, SteadyPairAnswers, steady_pair_readied};
+ghost use Rattle.steady_pair.specs.SteadyPairFlown.{PairFliesAnswering, OpensPlainPair, PairAnswersPlain};
 
 use account::IdentifyConfig;
+use live_pair::LentPair;
+use probe_words::{LentScalars, Scalars};
 use rules::Rule;
+use steady::SteadyClock;
 use two_axis_probe::TwoCall;
-use window::LentArrays;
 
 // ---- open
 
 // Opens a pair in its scalars, plain or, with an option of 1, as steady; the arrays of samples may hold anything. It is refused by 9 where an option has no meaning, or by the first of the rules 1 to 5 that is broken; then nothing is written.
 pub fn open(
-    words1: &mut [u32; 8],
-    floats1: &mut [f32; 14],
-    words2: &mut [u32; 8],
-    floats2: &mut [f32; 14],
-    steady: &mut u32,
-    first_dt_s: &mut f32,
+    lent1: &mut LentScalars<'_>,
+    lent2: &mut LentScalars<'_>,
     config: IdentifyConfig,
     options: u32,
-) -> Result<(), Rule>
-    ensures opening { SteadyPairOpened options config (scalars_over words1 floats1 words2 floats2) steady first_dt_s (numbered result) }
-    ensures flown { OpensSteadyPair config (scalars_over words1 floats1 words2 floats2) steady first_dt_s (numbered result) }
-    ensures plain { options ≢ 1 → OpensPlainPair options config (scalars_over words1 floats1 words2 floats2) (numbered result) }
+) -> Result<SteadyClock, Rule>
+    ensures opening { AnswersOpening double options config (scalars_lent lent1 lent2) result }
+    ensures same1 { SameScalars lent1.old lent1.new }
+    ensures same2 { SameScalars lent2.old lent2.new }
+    ensures flown { OpensAnswering double config (scalars_lent lent1 lent2) result }
+    ensures plain { options ≢ 1 → OpensPlainPair options config (scalars_lent lent1 lent2) (numbered result) }
 {
-    if options > 1 {
-        return Err(Rule::Form);
-    }
-    live_pair::open(words1, floats1, words2, floats2, config, 0)?;
-    *steady = options;
-    *first_dt_s = 0.0;
-    Ok(())
+    let clock = SteadyClock::new(options)?;
+    live_pair::open(lent1, lent2, config, 0)?;
+    Ok(clock)
 }
 
 // ---- step
 
-// Whether both axes run.
-fn both_run(words1: &[u32; 8], floats1: &[f32; 14], words2: &[u32; 8], floats2: &[f32; 14]) -> bool
-    ensures { result ≡ both_run (scalars_read words1 floats1 words2 floats2) }
-{
-    steady_probe::runs(words1, floats1) & steady_probe::runs(words2, floats2)
-}
-
-// One call of both axes. Where one of the rules 6, 10, 7 and 8 turns it back, it does so for both, and nothing is written.
+// One call of both axes: their offsets, 0 of an ended pair. Where one of the rules 6, 10, 7 and 8 turns it back, it does so for both, and nothing is written.
 pub fn step(
-    words1: &mut [u32; 8],
-    floats1: &mut [f32; 14],
-    lent1: &mut LentArrays<'_>,
-    words2: &mut [u32; 8],
-    floats2: &mut [f32; 14],
-    lent2: &mut LentArrays<'_>,
-    steady: u32,
-    first_dt_s: &mut f32,
+    lent: &mut LentPair<'_>,
+    clock: &mut SteadyClock,
     call: TwoCall,
-    offset1: &mut f32,
-    offset2: &mut f32,
-) -> Result<(), Rule>
-    ensures flight { SteadyPairStepped steady first_dt_s (kept_over words1 floats1 lent1 words2 floats2 lent2) (two_call_of call) (offsets_over offset1 offset2) (numbered result) }
-    ensures same1 { SameArrays lent1.old lent1.new }
-    ensures same2 { SameArrays lent2.old lent2.new }
-    ensures flown { SteadyPairFliesOn steady first_dt_s (kept_over words1 floats1 lent1 words2 floats2 lent2) (two_call_of call) (offsets_over offset1 offset2) (numbered result) }
-    ensures plain { steady ≡ 0 → StepsPlainPair first_dt_s (kept_over words1 floats1 lent1 words2 floats2 lent2) (two_call_of call) (offsets_over offset1 offset2) (numbered result) }
+) -> Result<(f32, f32), Rule>
+    ensures flight { SteadyPairAnswers (value_over clock) (pair_lent lent) (two_call_of call) result }
+    ensures clock { clock.new ≡ clock_after (numbered result) (pair_runs (pair_in lent.old)) call.dt clock.old }
+    ensures same { SamePair lent.old lent.new }
+    ensures flown { PairFliesAnswering (value_over clock) (pair_lent lent) (two_call_of call) result }
+    ensures plain { clock.old.steady ≡ 0 → PairAnswersPlain (value_over clock) (pair_lent lent) (two_call_of call) result }
 {
-    let running = both_run(words1, floats1, words2, floats2);
-    let band = steady::band_of(steady, *first_dt_s);
-    if steady::turns_back(band, running, call.dt) {
-        return Err(Rule::UnevenDt);
-    }
-    live_pair::step(
-        words1, floats1, lent1, words2, floats2, lent2, call, offset1, offset2,
-    )?;
-    *first_dt_s = steady::first_after(band, running, *first_dt_s, call.dt);
-    Ok(())
+    let running1 = steady_probe::is_running(lent.first.scalars.read().status());
+    let running2 = steady_probe::is_running(lent.second.scalars.read().status());
+    let step = |lent: &mut LentPair<'_>| -> Result<(f32, f32), Rule>
+        ensures flight { PairAnswers (pair_in lent.old) (two_call_of call) result (pair_in lent.new) }
+        ensures same { SamePair lent.old lent.new }
+    { lent.step(call) };
+    clock.guard(lent, running1 & running2, call.dt, step)
 }
 
 // ---- marks
 
 // Before a call that reads an axis's marks each byte of them is made 0 or 1, and before any other, one that is turned back among them, nothing is written. The marks that they stand for stay.
 pub fn ready(
-    words1: &[u32; 8],
-    floats1: &[f32; 14],
+    scalars1: Scalars<'_>,
     marks1: &mut [u8; 2048],
-    words2: &[u32; 8],
-    floats2: &[f32; 14],
+    scalars2: Scalars<'_>,
     marks2: &mut [u8; 2048],
-    steady: u32,
-    first_dt_s: f32,
+    clock: SteadyClock,
     dt: f32,
 )
-    ensures bytes1 { marks1.new ≡ steady_pair_readied steady first_dt_s (scalars_read words1 floats1 words2 floats2) first dt marks1.old }
-    ensures bytes2 { marks2.new ≡ steady_pair_readied steady first_dt_s (scalars_read words1 floats1 words2 floats2) second dt marks2.old }
+    ensures bytes1 { marks1.new ≡ steady_pair_readied clock.steady clock.first_dt_s (axes (read_in scalars1.entry) (read_in scalars2.entry)) first dt marks1.old }
+    ensures bytes2 { marks2.new ≡ steady_pair_readied clock.steady clock.first_dt_s (axes (read_in scalars1.entry) (read_in scalars2.entry)) second dt marks2.old }
     ensures marks1 { KeepsMarks marks1.old marks1.new }
     ensures marks2 { KeepsMarks marks2.old marks2.new }
-    ensures plain1 { steady ≡ 0 → marks1.new ≡ pair_readied (scalars_read words1 floats1 words2 floats2) first dt marks1.old }
-    ensures plain2 { steady ≡ 0 → marks2.new ≡ pair_readied (scalars_read words1 floats1 words2 floats2) second dt marks2.old }
+    ensures plain1 { clock.steady ≡ 0 → marks1.new ≡ pair_readied (axes (read_in scalars1.entry) (read_in scalars2.entry)) first dt marks1.old }
+    ensures plain2 { clock.steady ≡ 0 → marks2.new ≡ pair_readied (axes (read_in scalars1.entry) (read_in scalars2.entry)) second dt marks2.old }
 {
-    let band = steady::band_of(steady, first_dt_s);
-    if steady::turns_back(band, both_run(words1, floats1, words2, floats2), dt) {
+    let running1 = steady_probe::is_running(scalars1.status());
+    let running2 = steady_probe::is_running(scalars2.status());
+    if clock.turns_back(running1 & running2, dt) {
         return;
     }
-    live_pair::ready(words1, floats1, marks1, words2, floats2, marks2, dt);
+    live_pair::ready(scalars1, marks1, scalars2, marks2, dt);
 }

@@ -1,4 +1,3 @@
-pub mod Lists
+pub mod Behind
+pub mod Flying
 pub mod SteadyFlying
-pub mod Calls
-pub mod Plain

@@ -1,58 +1,44 @@
--- The options are told first, then what the plain opening answers; where it opens the word and the first dt are written.
-use mathlib.Core.Path.{◌≡◌, refl}
-use native.Mathlib.Omega.{arith}
-use Rattle.std.specs.Prelude.{ℕ, Err}
+-- The option is told first, then what the plain opening answers; where it opens the clock is answered.
+use mathlib.Core.Path.{◌≡◌}
+use Rattle.std.specs.Prelude.{Err, Ok}
 use Rattle.std.proofs.Common.{rules}
-use Rattle.account.specs.declared.IdentifyConfig.{IdentifyConfig}
-use Rattle.rules.specs.Numbers.{number_of, numbered}
-use Rattle.rules.proofs.Numbers.{above_0}
-use Rattle.probe_words.specs.Layout.{Scalars, scalars}
-use Rattle.live_probe.specs.Live.{opening, live_open}
-use Rattle.steady_probe.specs.SteadyFlown.{OpensPlain}
-use Rattle.steady_probe.proofs.Calls.{unknown, turned_away, opened}
-use Rattle.live_probe.proofs.Flying.{begun}
-use Rattle.steady_probe.proofs.SteadyFlying.{steady_begun}
-use Rattle.steady_probe.proofs.Plain.{opens_plain}
+use Rattle.rules.specs.Numbers.{numbered}
+use Rattle.probe_words.specs.Layout.{scalars_in}
+use Rattle.live_probe.specs.Live.{over, value_or}
+use Rattle.steady_probe.specs.Behind.{AnswersOpening}
+use Rattle.steady_probe.specs.SteadyLive.{single}
+use Rattle.steady_probe.proofs.Behind.{unknown, turned_away, opened}
+use Rattle.steady_probe.proofs.Flying.{opens_flight, opens_too}
+use Rattle.steady_probe.proofs.SteadyFlying.{probe, follows}
 use Rattle.steady_probe.proofs.open.Goals as goal
 
-plain_too : (options : ℕ) (c : IdentifyConfig) (s t : Scalars) (n : ℕ) → opening n t ≡ live_open options c s → OpensPlain options c (record { entry = s; exit = t }) n
-plain_too options c s t n e = record { opened = e; flown = begun options c s t n e }
-
-pub returns-then-options-gt1-clause-opening : goal.returns-then-options-gt1-clause-opening
-unfolding numbered number_of
-returns-then-options-gt1-clause-opening c =
+pub returns-in_err-clock : goal.returns-in_err-clock
+unfolding numbered value_or
+returns-in_err-clock c =
     let a = c.args in
-    unknown a.config (scalars a.words.now a.floats.now) a.steady.now a.first_dt_s.now a.options c.if-options-gt1.true
-
-pub returns-then-options-gt1-clause-flown : goal.returns-then-options-gt1-clause-flown
-returns-then-options-gt1-clause-flown c = steady_begun _ _ _ _ _ _ _ _ _ (returns-then-options-gt1-clause-opening c)
-
-pub returns-then-options-gt1-clause-plain : goal.returns-then-options-gt1-clause-plain
-returns-then-options-gt1-clause-plain c = λ h. plain_too _ _ _ _ _ (opens_plain _ _ _ _ _ _ _ _ _ (returns-then-options-gt1-clause-opening c) h)
-
-pub returns-in_err-open-clause-opening : goal.returns-in_err-open-clause-opening
-unfolding numbered
-returns-in_err-open-clause-opening c =
-    let a = c.args in
-    let r = c.in_err-open.field-0.0 in
+    let s = scalars_in a.lent.now in
+    let r = c.in_err-clock.field-0.0 in
     let is : c.from_residual.result ≡ Err r = search rules in
-    rw is
-    (turned_away a.config (scalars a.words.now a.floats.now) a.steady.now a.first_dt_s.now a.options (number_of r) _ c.if-options-gt1.false (λ z. omega (arith, above_0 r, z)) c.in_err-open.ensures.opening)
+    let told : AnswersOpening single a.options a.config (over s s) (Err r) = λ found. unknown single a.config s a.options found r (search rules) in
+    rw is (record { opening = told; same = search rules; flown = opens_flight probe follows a.options a.config s s (Err r) told; plain = opens_too probe follows a.options a.config s s (Err r) told })
 
-pub returns-in_err-open-clause-flown : goal.returns-in_err-open-clause-flown
-returns-in_err-open-clause-flown c = steady_begun _ _ _ _ _ _ _ _ _ (returns-in_err-open-clause-opening c)
-
-pub returns-in_err-open-clause-plain : goal.returns-in_err-open-clause-plain
-returns-in_err-open-clause-plain c = λ h. plain_too _ _ _ _ _ (opens_plain _ _ _ _ _ _ _ _ _ (returns-in_err-open-clause-opening c) h)
-
-pub returns-clause-opening : goal.returns-clause-opening
-unfolding numbered
-returns-clause-opening c =
+pub returns-in_err-open : goal.returns-in_err-open
+unfolding numbered value_or
+returns-in_err-open c =
     let a = c.args in
-    opened a.config (scalars a.words.now a.floats.now) a.steady.now a.first_dt_s.now a.options 0 _ c.if-options-gt1.false refl c.in_ok-open.ensures.opening
+    let s = scalars_in a.lent.now in
+    let t = scalars_in c.open.new.lent in
+    let r = c.in_err-open.field-0.0 in
+    let is : c.from_residual-in_err-open.result ≡ Err r = search rules in
+    let told : AnswersOpening single a.options a.config (over s t) (Err r) = λ found. turned_away single a.config s a.options found c.in_ok-clock.clock r t (search rules) c.in_err-open.ensures.opening in
+    rw is (record { opening = told; same = search rules; flown = opens_flight probe follows a.options a.config s t (Err r) told; plain = opens_too probe follows a.options a.config s t (Err r) told })
 
-pub returns-clause-flown : goal.returns-clause-flown
-returns-clause-flown c = steady_begun _ _ _ _ _ _ _ _ _ (returns-clause-opening c)
-
-pub returns-clause-plain : goal.returns-clause-plain
-returns-clause-plain c = λ h. plain_too _ _ _ _ _ (opens_plain _ _ _ _ _ _ _ _ _ (returns-clause-opening c) h)
+pub returns : goal.returns
+unfolding numbered value_or
+returns c =
+    let a = c.args in
+    let s = scalars_in a.lent.now in
+    let t = scalars_in c.open.new.lent in
+    let w = c.in_ok-clock.clock in
+    let told : AnswersOpening single a.options a.config (over s t) (Ok w) = λ found. opened single a.config s a.options found w t (search rules) c.in_ok-open.ensures.opening in
+    record { opening = told; same = search rules; flown = opens_flight probe follows a.options a.config s t (Ok w) told; plain = opens_too probe follows a.options a.config s t (Ok w) told }

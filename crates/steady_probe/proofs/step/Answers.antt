@@ -1,75 +1,38 @@
--- A call that 10 turns back leaves all as it was; any other is the plain call, after which the first dt is kept. What is flown flies.
-use mathlib.Core.Path.{◌≡◌, sym, ap₂, ◌∙◌}
-use Rattle.std.specs.Prelude.{Bool, ℕ, Float, Err}
+-- What stands behind the test is the plain call; and what is flown flies.
+use mathlib.Core.Path.{◌≡◌, refl, ap, ◌∙◌}
+use Rattle.std.specs.Prelude.{false}
 use Rattle.std.proofs.Common.{rules}
-use Rattle.account.specs.Probe.{Call}
-use Rattle.window.specs.Lent.{arrays_in}
-use Rattle.rules.specs.Numbers.{number_of, numbered}
-use Rattle.rules.proofs.Numbers.{above_0}
-use Rattle.probe_words.specs.Layout.{scalars}
+use Rattle.account.specs.declared.IdentifyStatus.{IdentifyStatus}
+use Rattle.account.specs.Probe.{clock}
+use Rattle.steady.specs.Steady.{is_running}
 use Rattle.identify.specs.Seen.{call_of}
-use Rattle.steady.specs.declared.Band.{Band}
+use Rattle.probe_words.specs.Layout.{Scalars, probe_in}
+use Rattle.rules.specs.Numbers.{numbered}
 use Rattle.steady.specs.Band.{turns_back}
-use Rattle.steady.specs.Kept.{band_in, first_after}
-use Rattle.live_probe.specs.Live.{Live, live, flight, Written}
-use Rattle.live_probe.proofs.Flying.{flown}
-use Rattle.steady_probe.specs.SteadyLive.{steady_flight, steady_step}
-use Rattle.steady_probe.specs.SteadyFlown.{StepsPlain}
-use Rattle.steady_probe.proofs.Calls.{turned_back, refused_after, kept}
-use Rattle.steady_probe.proofs.SteadyFlying.{steady_flown}
-use Rattle.steady_probe.proofs.Plain.{steps_plain}
+use Rattle.steady.specs.Kept.{clock_band}
+use Rattle.live_probe.specs.Live.{over, Stepped, SameLent, kept_in, value_or}
+use Rattle.steady_probe.specs.SteadyLive.{single, SteadyAnswers}
+use Rattle.steady_probe.proofs.Behind.{by_test, guard_says}
+use Rattle.steady_probe.proofs.Flying.{steps_flight, steps_too}
+use Rattle.steady_probe.proofs.SteadyFlying.{probe, follows}
 use Rattle.steady_probe.proofs.step.Goals as goal
 
-pub returns-then-turns_back-clause-flight : goal.returns-then-turns_back-clause-flight
-unfolding numbered number_of
-returns-then-turns_back-clause-flight c =
+pub returns : goal.returns
+unfolding value_or
+returns c =
     let a = c.args in
-    let k = live (scalars a.words.now a.floats.now) (arrays_in a.lent.now) in
-    let back = ap₂ (λ (b : Band) (r : Bool). turns_back b r a.call.dt) (sym c.band_of-band.ensures) (sym c.runs-running.ensures) ∙ sym c.turns_back.ensures ∙ c.if-turns_back.true in
-    turned_back a.steady a.first_dt_s.now k (call_of a.call) a.offset.now back
-
-pub returns-then-turns_back-clause-flown : goal.returns-then-turns_back-clause-flown
-returns-then-turns_back-clause-flown c = λ g calls answers f. steady_flown _ _ _ _ _ _ _ _ _ (returns-then-turns_back-clause-flight c) f
-
-pub returns-then-turns_back-clause-plain : goal.returns-then-turns_back-clause-plain
-returns-then-turns_back-clause-plain c =
-    λ h.
-    let s = steps_plain _ _ _ _ _ _ _ _ _ (returns-then-turns_back-clause-flight c) h in
-    record { stepped = s.0; flown = λ g calls answers f. flown _ _ _ _ _ _ s.0 f; tested = s.1 }
-
-pub returns-in_err-step-clause-flight : goal.returns-in_err-step-clause-flight
-unfolding numbered
-returns-in_err-step-clause-flight c =
-    let a = c.args in
-    let k = live (scalars a.words.now a.floats.now) (arrays_in a.lent.now) in
-    let r = c.in_err-step.field-0.0 in
-    let is : c.from_residual.result ≡ Err r = search rules in
-    let on = ap₂ (λ (b : Band) (r : Bool). turns_back b r a.call.dt) (sym c.band_of-band.ensures) (sym c.runs-running.ensures) ∙ sym c.turns_back.ensures ∙ c.if-turns_back.false in
-    rw is (kept a.steady a.first_dt_s.now k (call_of a.call) a.offset.now _ _ on c.in_err-step.ensures.flight (refused_after r _ _ a.first_dt_s.now a.call.dt))
-
-pub returns-in_err-step-clause-flown : goal.returns-in_err-step-clause-flown
-returns-in_err-step-clause-flown c = λ g calls answers f. steady_flown _ _ _ _ _ _ _ _ _ (returns-in_err-step-clause-flight c) f
-
-pub returns-in_err-step-clause-plain : goal.returns-in_err-step-clause-plain
-returns-in_err-step-clause-plain c =
-    λ h.
-    let s = steps_plain _ _ _ _ _ _ _ _ _ (returns-in_err-step-clause-flight c) h in
-    record { stepped = s.0; flown = λ g calls answers f. flown _ _ _ _ _ _ s.0 f; tested = s.1 }
-
-pub returns-clause-flight : goal.returns-clause-flight
-unfolding numbered
-returns-clause-flight c =
-    let a = c.args in
-    let k = live (scalars a.words.now a.floats.now) (arrays_in a.lent.now) in
-    let on = ap₂ (λ (b : Band) (r : Bool). turns_back b r a.call.dt) (sym c.band_of-band.ensures) (sym c.runs-running.ensures) ∙ sym c.turns_back.ensures ∙ c.if-turns_back.false in
-    let later = c.first_after.ensures ∙ ap₂ (λ (b : Band) (r : Bool). first_after 0 r b a.first_dt_s.now a.call.dt) c.band_of-band.ensures c.runs-running.ensures in
-    kept a.steady a.first_dt_s.now k (call_of a.call) a.offset.now _ _ on c.in_ok-step.ensures.flight later
-
-pub returns-clause-flown : goal.returns-clause-flown
-returns-clause-flown c = λ g calls answers f. steady_flown _ _ _ _ _ _ _ _ _ (returns-clause-flight c) f
-
-pub returns-clause-plain : goal.returns-clause-plain
-returns-clause-plain c =
-    λ h.
-    let s = steps_plain _ _ _ _ _ _ _ _ _ (returns-clause-flight c) h in
-    record { stepped = s.0; flown = λ g calls answers f. flown _ _ _ _ _ _ s.0 f; tested = s.1 }
+    let g = c.guard in
+    let k = kept_in a.lent.now in
+    let next = kept_in g.new.kept in
+    let running = c.is_running-running.ensures ∙ ap (λ (s : IdentifyStatus). is_running (clock s)) (c.status.ensures.probe ∙ ap (λ (s : Scalars). (probe_in s).status) c.read.ensures) in
+    let made : turns_back (clock_band a.clock.now) c.is_running-running.result a.call.dt ≡ false → Stepped k (call_of a.call) g.result next × SameLent a.lent.now g.new.kept = λ h. let r = g.ensures.made h in (search rules, search rules) in
+    let told : SteadyAnswers (over a.clock.now g.new.self) (over k next) (call_of a.call) g.result = λ found.
+    guard_says single a.clock.now g.new.self c.is_running-running.result k next (call_of a.call) g.result found (value_or g.result found) running (λ e. rw e refl)
+    (λ h. let t = g.ensures.turned h in (t.0, ap kept_in t.1)) (λ h. (made h).0 found) g.ensures.clock in
+    record {
+      flight = told;
+      clock = rw (← running) g.ensures.clock;
+      same = by_test _ (λ h. rw (g.ensures.turned h).1 (search rules)) (λ h. (made h).1);
+      flown = λ found. steps_flight probe follows a.clock.now g.new.self k next (call_of a.call) (numbered g.result) found (value_or g.result found) (told found);
+      plain = λ h found. steps_too probe follows a.clock.now g.new.self k next (call_of a.call) (numbered g.result) found (value_or g.result found) (told found) h;
+    }
