@@ -1,5 +1,4 @@
 pub mod Stepping
 pub mod Flying
-pub mod Marks
 pub mod Delay
 pub mod Asked

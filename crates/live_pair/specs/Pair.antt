@@ -119,7 +119,7 @@ offsets_or (Err r) found = found
 
 -- a call of what is kept answers r and leaves `next`, whatever stands where the offsets go
 abbrev pub PairAnswers : Pair → TwoCall → Result (Float × Float) Rule → Pair → Type 0
-PairAnswers k c r next = (found : Axis → Float) → pair_flight (numbered r) (offsets_or r found) next ≡ pair_step k c found
+PairAnswers k c r next = (found : Axis → Float) → PairStepped (over k next) c (over found (offsets_or r found)) (numbered r)
 
 -- ---- marks
 -- whether an axis runs and no rule turns its call back, by the number and the elapsed time

@@ -1,5 +1,6 @@
 // The functions of a pair in flight that the static library exports.
 // C passes words, floats and arrays one by one, and takes a number for an answer, so each function here does, and calls what takes structs and answers a Result.
+// What a step lends in one struct has one lifetime.
 #![tactic(auto)]
 
 ghost use Rattle.std.specs.Prelude.{◌≡◌};
