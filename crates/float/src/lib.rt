@@ -228,6 +228,7 @@ fn series(t: f64) -> f64
     last
 }
 
+// A `for`, of which no index is read. Tried as a fold over the range: it wants a law more, that the last square may come last.
 #[tactic(auto, using(crate::proofs::ExpSteps::squared_next, crate::proofs::ExpSteps::squared_done))]
 fn squared_ten_times(x: f64) -> f64
     ensures { result ≡ squared 10 x }

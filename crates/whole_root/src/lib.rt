@@ -38,7 +38,8 @@ fn one_round(s: PartialRoot) -> PartialRoot
     }
 }
 
-// The whole part of the square root of n * 2^16.
+// The whole part of the square root of n * 2^16. A `for`, of which no index is read: what is handed to a fold would have to ask how large the root so far is,
+// as a round does.
 pub fn whole_root(n: u32) -> WholeRoot
     ensures rounds { result ≡ whole_of (rounds 24 n) }
     ensures whole { Whole (n * 2 ^ 16) result }
