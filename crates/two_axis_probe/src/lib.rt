@@ -78,7 +78,7 @@ fn end_tick(
     identify::next_probe(probe.ticks + 1, readings.window, end)
 }
 
-// The same with the end time still ahead.
+// The second half of an axis's call with its end time still ahead.
 fn run_on(probe: IdentifyProbe, begun: Begun) -> IdentifyProbe
     requires { probe.ticks < 16777216 }
     ensures { result ≡ tick_ahead probe begun }

@@ -11,7 +11,7 @@ use rules::Rule;
 use two_axis_probe::TwoAxisProbe;
 use window::LentArrays;
 
-// A flight of two axes: their probe, and the arrays of each one's window.
+// A flight of two axes: their probe, and the arrays of each one's window. What it has in common with one of one axis is in `batch`.
 #[derive(Drop)]
 struct TwoAxes<'a> {
     probe: TwoAxisProbe,
@@ -53,7 +53,7 @@ impl Flight for TwoAxes<'_> {
     ghost report_size = { λ c calls. length_two _ };
 }
 
-// The run of two axes.
+// The run of two axes, a type of its own beside the flight, as `byte_run` says.
 struct TwoAxesRun;
 
 impl Batch for TwoAxesRun {
