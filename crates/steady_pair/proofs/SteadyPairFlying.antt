@@ -19,7 +19,8 @@ use Rattle.live_pair.specs.Pair.{Pair, PairFlight, pair_open, pair_flight, pair_
 use Rattle.live_pair.specs.Flown.{PairFlown, by_open, by_step}
 use Rattle.live_pair.proofs.Flying.{stands, flies, answers_on}
 use Rattle.steady_probe.specs.SteadyLive.{runs_in}
-use Rattle.steady_probe.proofs.Flying.{Model, Follows, N, Turned, end_by}
+use Rattle.steady_pair.specs.SteadyPairFlown.{SteadyPairFlown, SteadyPairFlies}
+use Rattle.steady_probe.proofs.Flying.{Model, Follows, N, Turned, end_by, flies_behind}
 use Rattle.steady_probe.proofs.SteadyFlying.{accepted_above, number_by}
 use Rattle.steady_pair.specs.SteadyPair.{pair_runs, double}
 
@@ -92,3 +93,8 @@ follows = record {
   accounted = steady_two_accounted;
   alike = alikes;
 }
+
+-- what is flown behind the test flies
+pub steady_pair_flies : {c : IdentifyConfig} {steady : ℕ} {calls : List TwoCall} {answers : Axis → List Reply} {k : Pair} {dt : Float} → SteadyPairFlown c steady calls answers k dt
+    → SteadyPairFlies c steady calls answers k dt
+steady_pair_flies {c} {steady} {calls} {answers} {k} {dt} f = flies_behind pair follows c steady calls answers k dt f

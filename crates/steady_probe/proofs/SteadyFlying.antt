@@ -19,7 +19,8 @@ use Rattle.live_probe.specs.Live.{Live, live_probe, live_open}
 use Rattle.live_probe.specs.Flown.{reply_by, Flown, by_open, by_step}
 use Rattle.live_probe.proofs.Flying.{made, flies, replies_so}
 use Rattle.steady_probe.specs.SteadyLive.{runs_in, single}
-use Rattle.steady_probe.proofs.Flying.{Model, Follows, N, Turned, end_by}
+use Rattle.steady_probe.specs.SteadyFlown.{SteadyFlown, SteadyFlies}
+use Rattle.steady_probe.proofs.Flying.{Model, Follows, N, Turned, end_by, flies_behind}
 
 -- an accepted dt is above 0
 above : (e : Bool) (l : Bool) (n : ℕ) → cond (e && l) n 6 ≡ 0 → l ≡ true
@@ -91,3 +92,8 @@ follows = record {
   accounted = λ b c calls. steady_accounted b true c calls;
   alike = λ b c calls. both b true c calls;
 }
+
+-- what is flown behind the test flies
+pub steady_flies : {c : IdentifyConfig} {steady : ℕ} {calls : List Call} {answers : List Reply} {k : Live} {first : Float} → SteadyFlown c steady calls answers k first
+    → SteadyFlies c steady calls answers k first
+steady_flies {c} {steady} {calls} {answers} {k} {first} f = flies_behind probe follows c steady calls answers k first f
