@@ -93,6 +93,7 @@ fn reads_marks(scalars: Scalars<'_>, dt: f32) -> bool
     rules::validate_call(clock, scalars.ticks(), dt).is_ok()
 }
 
+// It takes the scalars and not the probe: read as a whole first, the probe costs a call 28 instructions where it takes 14.
 // Before a call that reads the marks each byte of them is made 0 or 1, and before any other nothing is written. The marks that they stand for stay.
 pub fn ready(scalars: Scalars<'_>, marks: &mut [u8; 2048], dt: f32)
     ensures bytes { marks.new ≡ readied (probe_in (read_in scalars.entry)) dt marks.old }

@@ -98,7 +98,8 @@ fn probe_of(words: &[u32; 8], floats: &[f32; 14]) -> IdentifyProbe
     }
 }
 
-// How many ticks the probe has taken.
+// How many ticks the probe has taken. A function of the array, here and below: a proof knows an array's length behind a reference that is a parameter, and
+// not behind a field.
 fn ticks_of(words: &[u32; 8]) -> u32
     ensures { result ≡ word words.now 2 }
 {

