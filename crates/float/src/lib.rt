@@ -295,6 +295,7 @@ fn log_of(m: u64, e: u64) -> f32
 
 // The logarithm of a positive value: it is written as m * 2^k with m from 0.75 up to 1.5, then a sum in f64, narrowed.
 // -infinity of a zero, infinity of infinity, NaN of NaN and of any other negative value.
+// The fields are cut out of the bits as in `root`: the two share the three lines that do so, and each counts its exponent from another place.
 pub fn log(x: f32) -> f32
     ensures { result ≡ log_of x }
 {

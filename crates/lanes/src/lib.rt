@@ -33,7 +33,8 @@ fn tick_lanes(newer: [f64; 3], older: [f64; 3]) -> [f64; 6]
 
 // A block of moments through three lags at once, as the regressors of three poles: six lanes a tick, for each pole its whole ticks and then its half ticks.
 // The lags go on from lagged, and what is answered is how they stand after the block.
-// A block past the last of 16 is read as the last, a count above 128 as 128.
+// A block past the last of 16 is read as the last, a count above 128 as 128. By its number, and not as a part of the moments that is handed out:
+// the sums need the tick at which it begins too.
 pub fn lag_block(
     moments: &[f32; 2048],
     poles: [f32; 3],

@@ -42,7 +42,7 @@ pub struct LentArrays<'a> {
     pub held: &'a mut [bool; 2048],
 }
 
-// A window as a fit on its recorded rates reads it.
+// A window as a fit on its recorded rates reads it. A clause names those of its arrays that its function reads, since not each reads all three.
 #[derive(Clone, Copy)]
 pub struct Readings<'a> {
     pub window: Window,
