@@ -53,7 +53,7 @@ pub trait Flight {
     ghost report_size: { (c : IdentifyConfig) (calls : List ℕ) → length (reported c calls) ≡ sizes.report };
 }
 
-// Call k of a run, and its answer.
+// Call k of a run, and its answer. The sizes are a value too, here and below: the kind has them as a constant, the flight not (`byte_run` says why).
 fn fly_call<F: Flight>(flight: &mut F, sizes: Sizes, calls: &[u8], k: usize, output: &mut [u8])
     requires sizes { sizes ≡ F.sizes }
     requires call { sizes.call * k + sizes.call ≤ length calls.now }
@@ -77,7 +77,7 @@ pub fn fly<F: Flight>(flight: &mut F, sizes: Sizes, calls: &[u8], output: &mut [
     ensures output { (c : IdentifyConfig) → F.stands c calls.now 0 flight.old → output.new ≡ onto (report_and_answers sizes.call F.reported F.answers c calls.now) output.old }
 {
     let n = calls.len() / sizes.call;
-    // By index: a call is some bytes of the one slice, and its answer some of the other.
+    // By index: after a loop over `chunks_exact_mut` a proof knows the output's length and not its bytes.
     for k in 0..n {
         fly_call(flight, sizes, calls, k, output);
     }

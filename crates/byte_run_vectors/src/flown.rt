@@ -2,6 +2,7 @@
 // opens as steady. The memory holds values of no meaning before it is opened.
 #![tactic(auto)]
 
+use byte_run::word_of;
 use identify::{Call, IdentifyProbe};
 use live_pair::LentPair;
 use live_probe::LentProbe;
@@ -14,11 +15,6 @@ use wire::{read_float, write_word};
 const WORD: u32 = 0xa5a5_a5a5;
 
 const FLOAT: f32 = -1.5e30;
-
-// The word of a call that a rule turned back: 7FC00000 and the rule's number.
-fn refused(rule: Rule) -> u32 {
-    0x7fc0_0000u32.wrapping_add(rule.number())
-}
 
 // The byte of each mark.
 fn bytes_of(held: [bool; 2048]) -> [u8; 2048] {
@@ -79,6 +75,9 @@ impl Memory {
     }
 }
 
+// ---- runs
+// Apart from `batch`, whose runs these are held against: nothing is promised of them, and a flight of `batch` would owe what it answers.
+
 // A run of one axis, answered as `byte_run` answers it.
 pub fn one_axis(options: u32, config: &[u8], calls: &[u8], output: &mut [u8]) -> Result<(), Rule> {
     if (config.len() != 24)
@@ -93,17 +92,14 @@ pub fn one_axis(options: u32, config: &[u8], calls: &[u8], output: &mut [u8]) ->
         byte_config::config_of(config),
         options,
     )?;
-    for (k, call) in calls.chunks_exact(12).enumerate() {
+    for (call, word) in calls.chunks_exact(12).zip(output[36..].chunks_exact_mut(4)) {
         let call = Call {
             dt: read_float(call, 0),
             rate: read_float(call, 4),
             moment: read_float(call, 8),
         };
-        let word = match steady_probe::step(&mut memory.lent(), &mut clock, call) {
-            Ok(offset) => float::to_word(offset),
-            Err(rule) => refused(rule),
-        };
-        write_word(output, 36 + 4 * k, word);
+        let answer = steady_probe::step(&mut memory.lent(), &mut clock, call);
+        write_word(word, 0, word_of(answer.map(Some)));
     }
     live_probe::report(
         memory.probe(),
@@ -130,7 +126,7 @@ pub fn two_axes(options: u32, config: &[u8], calls: &[u8], output: &mut [u8]) ->
         byte_config::config_of(config),
         options,
     )?;
-    for (k, call) in calls.chunks_exact(20).enumerate() {
+    for (call, words) in calls.chunks_exact(20).zip(output[77..].chunks_exact_mut(8)) {
         let mut lent = LentPair {
             first: first.lent(),
             second: second.lent(),
@@ -150,12 +146,8 @@ pub fn two_axes(options: u32, config: &[u8], calls: &[u8], output: &mut [u8]) ->
                 },
             },
         );
-        let (word1, word2) = match answer {
-            Ok((x, y)) => (float::to_word(x), float::to_word(y)),
-            Err(rule) => (refused(rule), refused(rule)),
-        };
-        write_word(output, 77 + 8 * k, word1);
-        write_word(output, 81 + 8 * k, word2);
+        write_word(words, 0, word_of(answer.map(|(x, _)| Some(x))));
+        write_word(words, 4, word_of(answer.map(|(_, y)| Some(y))));
     }
     let pair = TwoAxisProbe {
         first: first.probe(),

@@ -31,10 +31,7 @@ fn holds(output: &[u8], expected: &[u8]) -> bool {
 fn agrees<R: Fn(&[u8], &[u8], &mut [u8]) -> Result<(), Rule>>(run: &R, s: &[u8]) -> bool
     requires { R.IsAlwaysCallable run.now }
 {
-    let mut output = [0u8; 65536];
-    for (k, b) in output.iter_mut().enumerate() {
-        *b = filled(k);
-    }
+    let mut output: [u8; 65536] = std::array::from_fn(filled);
     let config = read_word(s, 0) as usize;
     let calls = read_word(s, 4) as usize;
     let end = 12 + config + calls;

@@ -129,7 +129,7 @@ fn stand_at(now_s: f32, duration_s: f32, class: Classified, readings: Readings<'
 }
 
 impl Tick {
-    // The tick with the probe's end time and extension as they were.
+    // How a tick ends that leaves the end time and the extension as they were. Field by field: an ending has a stand in place of the time.
     fn ended(self, stand: Stand) -> Ending
         ensures { result ≡ ending self.end_s self.noisy self.sweep stand }
     {

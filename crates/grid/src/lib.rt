@@ -81,8 +81,8 @@ fn keep_each(kept: &mut [Option<LagFit>; 20], bracket: Bracket, fits: [Option<Ga
     }
 }
 
-// What each step keeps of all poles, three of them at a time. The pole above the last is the last. By their places: in an array to be walked by windows of five
-// the first and the last pole would stand twice.
+// What each step keeps of all poles, three of them at a time. The pole above the last is the last. By their places: each pole is worked out from its own, and in
+// an array to be walked by windows of five the first and the last would stand twice.
 pub fn keep_poles(input: FitInput<'_>, dt_s: f32) -> [Option<LagFit>; 20]
     ensures { KeptTable dt_s (fit_of input.entry) result }
 {

@@ -134,7 +134,7 @@ fn fit_long(rates: &[f32; 2048], moments: &[f32; 2048], n: usize, dt_s: f32) -> 
     ensures { result ≡ searched dt_s (window_fit rates.now moments.now dt_s n) }
 {
     let carry = f64::from(lags::carry(dt_s));
-    // The two series are lent to what fills them, as all arrays are: none is handed back by value.
+    // The two series are lent to what fills them, here and in `trial`: handed back by value each would be copied, 16 KB.
     let mut constants = [0.0f64; 2048];
     let mut changes = [0.0f64; 2048];
     let shared = gain::prepare(rates, carry, n, &mut constants, &mut changes);
@@ -148,7 +148,7 @@ fn fit_long(rates: &[f32; 2048], moments: &[f32; 2048], n: usize, dt_s: f32) -> 
 }
 
 // The integrated fit of the first len rates and moments. Array by array: a proof knows an array's length behind a reference that is a parameter, and not
-// behind a field of `Readings`.
+// behind a field of `Readings`, and the length and duration beside them.
 pub fn fit_integrated(
     rates: &[f32; 2048],
     moments: &[f32; 2048],

@@ -47,7 +47,7 @@ fn poles_agree(s: &[u8]) -> bool {
 }
 
 // w stored, w step, carry as f64 bits; each f rate, f lagged; w 1 for a fit, else 0; f gain, f residual.
-// A finite moment goes through the lag of pole 0 as it is, but for a -0, which comes out as +0 after a lagged +0.
+// A finite moment goes through the lag of pole 0 as it is, but for a -0, which comes out as +0 where the lagged one has no minus sign.
 fn gain_agrees(s: &[u8]) -> bool {
     let recording = Recording::read(s, 16);
     let fit = trial::fit_gain(

@@ -12,7 +12,7 @@ use gain::{FitInput, GainFit, Shared, StepSums};
 use std::array;
 
 // The running values of the six lanes of a whole tick side by side: m, and the three sums that it is in.
-// Four arrays: an array of six structs takes 1.35 times as long, since the compiler no longer packs two lanes in a register.
+// Four arrays: an array of six structs takes 1.35 times as long, since the compiler then packs no two lanes in a register.
 #[derive(Clone, Copy)]
 pub struct LaneSums {
     pub m: [f64; 6],
@@ -122,6 +122,7 @@ fn sum_places(input: FitInput<'_>, poles: [f32; 3]) -> [LaneSums; 10]
     let mut sums = [none; 10];
     let mut ticks = [[0.0f64; 6]; 128];
     let mut lagged = [0.0f32; 3];
+    // By the block: a lane reads its two series some ticks apart from the moments.
     for b in 0..(n + 11).div_ceil(128) {
         let tick = b * 128;
         let next = lanes::lag_block(input.moments, poles, lagged, b, n + 11 - tick, &mut ticks);

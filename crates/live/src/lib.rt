@@ -1,5 +1,6 @@
 // The functions of a probe in flight that the static library exports.
-// C passes words, floats and arrays one by one, and takes a number for an answer, so each function here does, and calls what takes structs and answers a Result.
+// C passes words, floats and arrays one by one, names each function of one axis and of two, and takes a number for an answer, so each function here does: it calls what
+// takes structs and answers a Result, and writes what came to C's own places.
 // What a step lends in one struct has one lifetime.
 #![tactic(auto)]
 

@@ -18,7 +18,7 @@ use two_axis_probe::{TwoAxisProbe, TwoCall};
 
 // ---- open
 
-// Opens a pair in its scalars; the arrays of samples may hold anything. It is refused by 9 where an option has no meaning, or by the first of the rules 1 to 5 that is broken; then nothing is written.
+// Opens a pair in its scalars; the arrays of samples may hold anything. An option too is taken, as `live_probe` says. It is refused by 9 where an option has no meaning, or by the first of the rules 1 to 5 that is broken; then nothing is written.
 pub fn open(
     lent1: &mut LentScalars<'_>,
     lent2: &mut LentScalars<'_>,

@@ -1,4 +1,4 @@
-// A probe that its caller keeps and steps: opened, stepped, looked at and reported from its own memory.
+// A probe that its caller keeps and steps: opened, stepped and reported in the caller's memory.
 #![tactic(auto)]
 
 ghost use Rattle.std.specs.Prelude.{◌≡◌};
@@ -36,7 +36,7 @@ pub fn config_by(
     }
 }
 
-// Opens a probe in its scalars; the arrays of samples may hold anything. It is refused by 9 where an option has no meaning, or by the first of the rules 1 to 5 that is broken; then nothing is written.
+// Opens a probe in its scalars; the arrays of samples may hold anything. An option too is taken, since what a plain opening answers to each is promised. It is refused by 9 where an option has no meaning, or by the first of the rules 1 to 5 that is broken; then nothing is written.
 pub fn open(lent: &mut LentScalars<'_>, config: IdentifyConfig, options: u32) -> Result<(), Rule>
     ensures opening { opening (numbered result) (scalars_in lent.new) ≡ live_open options config (scalars_in lent.old) }
     ensures same { SameScalars lent.old lent.new }
@@ -93,8 +93,8 @@ fn reads_marks(scalars: Scalars<'_>, dt: f32) -> bool
     rules::validate_call(clock, scalars.ticks(), dt).is_ok()
 }
 
-// It takes the scalars and not the probe: read as a whole first, the probe costs a call 28 instructions where it takes 14.
 // Before a call that reads the marks each byte of them is made 0 or 1, and before any other nothing is written. The marks that they stand for stay.
+// It takes the scalars and not the probe: read as a whole first, the probe costs a call twice the instructions. The marks stand apart, since they are written.
 pub fn ready(scalars: Scalars<'_>, marks: &mut [u8; 2048], dt: f32)
     ensures bytes { marks.new ≡ readied (probe_in (read_in scalars.entry)) dt marks.old }
     ensures marks { KeepsMarks marks.old marks.new }

@@ -1,4 +1,5 @@
-// A probe from two arrays that its caller keeps, its scalars: eight words, and fourteen floats, of which the last six are those of its status.
+// A probe from two arrays that its caller keeps, its scalars: eight words, and fourteen floats, of which the last six are those of its status. Two arrays, as C keeps
+// them (include/identify.h): with the floats of the status in a third a step took 0.7 ns more.
 #![tactic(auto)]
 
 ghost use Rattle.std.specs.Prelude.{◌≡◌, ◌≤◌};
@@ -51,7 +52,8 @@ fn status_by(kind: u32, half_ticks: u32, floats: &[f32; 14]) -> IdentifyStatus
     }
 }
 
-// The status that any content of the two arrays stands for.
+// The status that any content of the two arrays stands for. A function of the arrays, as the others here: a proof knows an array's length behind a reference that is
+// a parameter, and not behind a field.
 fn status_of(words: &[u32; 8], floats: &[f32; 14]) -> IdentifyStatus
     ensures { result ≡ status_in words.now floats.now }
 {
@@ -98,8 +100,7 @@ fn probe_of(words: &[u32; 8], floats: &[f32; 14]) -> IdentifyProbe
     }
 }
 
-// How many ticks the probe has taken. A function of the array, here and below: a proof knows an array's length behind a reference that is a parameter, and
-// not behind a field.
+// How many ticks the probe has taken.
 fn ticks_of(words: &[u32; 8]) -> u32
     ensures { result ≡ word words.now 2 }
 {

@@ -53,7 +53,8 @@ fn stored(window: Window, rates: &[f32; 2048], moments: &[f32; 2048], held: &[bo
     window.stored()
 }
 
-// A whole number as f32, which holds those of a window exactly.
+// A whole number as f32, which holds those of a window exactly. How many it may be is asked for, here and below: a type for a count would be made and taken apart
+// at each use.
 fn whole(n: usize) -> f32
     requires { n ≤ capacity }
     ensures { result ≡ whole32 n }
@@ -93,15 +94,14 @@ fn solve_delays(shared: SharedSums) -> [Option<Solution>; 10]
     std::array::from_fn(|k| solve_delay(shared, k))
 }
 
-// A solution's moments summed are its effect. `units` sums a model's: one function of three numbers would be longer than the two lines.
-#[tactic(auto, unfolding(crate::specs::Classify::entry_of, crate::specs::Classify::effect_of))]
+#[tactic(auto, unfolding(crate::specs::Classify::entry_of, crate::specs::Classify::effect_of, units::specs::Units::effect_of))]
 fn entry(solved: Option<Solution>) -> Option<Entry>
     ensures { result ≡ entry_of solved }
 {
     let Solution { c, residual } = solved?;
     let [_, _, m0, m1, m2, _] = c;
     Some(Entry {
-        effect: m0 + m1 + m2,
+        effect: units::moment_effect(m0, m1, m2),
         residual,
     })
 }

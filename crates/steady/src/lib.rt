@@ -52,7 +52,8 @@ fn first_after(band: Band, running: bool, first_dt_s: f32, dt: f32) -> f32
     }
 }
 
-// What a caller keeps for the test: a word, not 0 where the probe is steady, and its first accepted dt, none where it is not above 0.
+// What a caller keeps for the test: a word, not 0 where the probe is steady, and its first accepted dt, none where it is not above 0. As C keeps them: any word but
+// 0 is steady, and a `Band` would not give it back.
 #[derive(Clone, Copy)]
 pub struct SteadyClock {
     pub steady: u32,

@@ -22,8 +22,9 @@ use steady::SteadyClock;
 use two_axis_probe::TwoCall;
 
 // ---- open
+// The clock and then the plain opening, as `steady_probe` has it of a probe, and so at the marks: one function of both would be handed the plain one, and be longer than
+// two lines.
 
-// The clock and then the plain opening, as `steady_probe` has it of a probe: one function of both would be handed the opening, and be longer than two lines.
 // Opens a pair in its scalars, plain or, with an option of 1, as steady; the arrays of samples may hold anything. It is refused by 9 where an option has no meaning, or by the first of the rules 1 to 5 that is broken; then nothing is written.
 pub fn open(
     lent1: &mut LentScalars<'_>,
@@ -58,7 +59,7 @@ pub fn step(
 {
     let running1 = steady_probe::is_running(lent.first.scalars.read().status());
     let running2 = steady_probe::is_running(lent.second.scalars.read().status());
-    // With its clauses, since what the check finds of the closure by itself is too large for its search.
+    // With its clauses: without them what is known of its calls is too large a term for the proof of the step.
     let step = |lent: &mut LentPair<'_>| -> Result<(f32, f32), Rule>
         ensures flight { PairAnswers (pair_in lent.old) (two_call_of call) result (pair_in lent.new) }
         ensures same { SamePair lent.old lent.new }

@@ -132,8 +132,8 @@ impl SquareSweep {
     }
 }
 
-// One tick of a sweep that is lent: it is moved on, and the offset is answered. Beside `next`, which is the same by value: a caller keeps its sweep where it
-// stands, and the definition is of a sweep by value.
+// One tick of a sweep that is lent: it is moved on, and the offset is answered. The Rust has this form; `next`, by value, is that of
+// the definition.
 pub fn advance(sweep: &mut SquareSweep, dt: f32, elapsed_s: f32) -> f32
     ensures { (result ≡ (next_sweep sweep.old dt elapsed_s).offset)
         × (sweep.new ≡ (next_sweep sweep.old dt elapsed_s).sweep) }

@@ -11,8 +11,8 @@ ghost use Rattle.trial.specs.Trial.{first_moment};
 
 use gain::{FitInput, GainFit, StepSums};
 
-// A step by its number, as the definitions have it: step / 2 + 1 whole ticks, and half a tick more where it is odd.
-// Where the moments of a step begin: at the one that tick 11 meets, 12 less the whole ticks.
+// Where the moments of a step begin: at the one that tick 11 meets, 12 less the whole ticks. A step is its number, step / 2 + 1 whole ticks and half a tick more where
+// it is odd: that is its place in arrays of twenty, and a struct would be made the number at each use.
 fn first_moment(step: usize) -> usize
     ensures { result ≡ first_moment step }
 {
@@ -82,7 +82,7 @@ pub fn fit_gain(
 ) -> Option<GainFit>
     ensures { result ≡ gain_fit carry (at moments.now) (at rates.now) (min len 2048 - first_tick) step pole }
 {
-    // The two series are lent to what fills them, as all arrays are: none is handed back by value.
+    // The two series are lent to what fills them, here and in `integrated`: handed back by value each would be copied, 16 KB.
     let mut constants = [0.0f64; 2048];
     let mut changes = [0.0f64; 2048];
     let shared = gain::prepare(rates, carry, len, &mut constants, &mut changes);

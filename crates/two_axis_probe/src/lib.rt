@@ -63,7 +63,7 @@ fn validate_both(probe: TwoAxisProbe, dt: f32) -> Result<(), Rule>
 
 // ---- a call
 
-// The second half of an axis's call, where its sample is stored and its window looked at.
+// The second half of an axis's call, its sample stored and its window looked at. That ticks have room is asked for, here and below, as `identify` says.
 fn end_tick(
     probe: IdentifyProbe,
     begun: Begun,
@@ -111,7 +111,7 @@ impl TwoAxisProbe {
     }
 
     // A call that no rule turns back, of axes that have run for elapsed1 and elapsed2. Both samples are stored before either window is looked at, and both windows are looked at before either axis goes on.
-    // It answers both offsets.
+    // It answers both offsets. The arrays are two parameters: in a pair's memory each axis's stand beside its scalars.
     #[tactic(auto, unfolding(crate::specs::Stepped::two_ticked))]
     fn tick(
         &mut self,
