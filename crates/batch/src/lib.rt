@@ -69,6 +69,7 @@ fn fly_call<F: Flight>(flight: &mut F, sizes: Sizes, calls: &[u8], k: usize, out
 }
 
 // The calls of a run, one after the other, of a flight that none has reached yet; and then the report, in front of their answers.
+// Public only for the kinds of run, `byte_run` and `two_axis_run`: it asks for the kind's own sizes, and for the room that `run` has tested.
 pub fn fly<F: Flight>(flight: &mut F, sizes: Sizes, calls: &[u8], output: &mut [u8])
     requires sizes { sizes ≡ F.sizes }
     requires workable { Workable sizes }

@@ -96,6 +96,7 @@ impl SteadyClock {
     }
 
     // A plain call behind the test: 10 turns it back, or it is made, and then the first dt is kept of one that is accepted.
+    // Public only for `steady_probe` and `steady_pair`, whose call it makes: that it may be made is all that it asks.
     #[tactic(auto, unfolding(crate::specs::Kept::first_after, rules::specs::Numbers::numbered), using(rules::proofs::Numbers::above_0))]
     pub fn guard<K, T, F: FnOnce(&mut K) -> Result<T, Rule>>(
         &mut self,
