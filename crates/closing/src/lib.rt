@@ -217,13 +217,33 @@ pub fn close_over(tick: Tick, readings: Readings<'_>) -> Ending
     end_by(class, false, tick, readings)
 }
 
-// The end of a tick of a probe that flies alone.
+// The end of a tick of a probe that flies alone. Within its caller, and from a tick's parts: put together before the test, a tick would stand in memory at every call.
+#[inline(always)]
 #[tactic(auto, using(crate::proofs::Closing::ahead, crate::proofs::Closing::over))]
-pub fn close(tick: Tick, readings: Readings<'_>) -> Ending
-    ensures { (offsets : List Float) → result ≡ closed_alone tick (samples_read readings.entry offsets) }
+pub fn close(
+    now_s: f32,
+    end_s: f32,
+    noisy: Option<IdentifyExtension>,
+    sweep: SquareSweep,
+    readings: Readings<'_>,
+) -> Ending
+    ensures { (offsets : List Float) → result ≡ closed_alone (record { now_s = now_s; end_s = end_s; noisy = noisy; sweep = sweep }) (samples_read readings.entry offsets) }
 {
-    if tick.now_s < tick.end_s {
-        return goes_on(tick);
+    if now_s < end_s {
+        return goes_on(Tick {
+            now_s,
+            end_s,
+            noisy,
+            sweep,
+        });
     }
-    close_over(tick, readings)
+    close_over(
+        Tick {
+            now_s,
+            end_s,
+            noisy,
+            sweep,
+        },
+        readings,
+    )
 }

@@ -106,12 +106,12 @@ fn is_within(bar: f32, residual: Option<f32>) -> bool
 }
 
 #[tactic(auto, unfolding(crate::specs::Tie::least_to, crate::specs::Tie::residuals))]
-fn least_residual(entries: [Option<Entry>; 20], all: bool) -> Option<f32>
-    ensures { result ≡ least_to (residuals all entries) entry_count }
+fn least_residual(entries: &[Option<Entry>; 20], all: bool) -> Option<f32>
+    ensures { result ≡ least_to (residuals all entries.now) entry_count }
 {
     let mut least = None;
     for entry in entries {
-        least = lesser(least, considered(all, entry));
+        least = lesser(least, considered(all, *entry));
     }
     least
 }
@@ -125,10 +125,10 @@ fn place_within(entries: &[Option<Entry>], all: bool, bar: f32) -> Option<usize>
         .position(|entry| is_within(bar, considered(all, *entry)))
 }
 
-fn first_within(entries: [Option<Entry>; 20], all: bool, bar: f32) -> Option<usize>
-    ensures { result ≡ first_from bar (residuals all entries) 0 entry_count }
+fn first_within(entries: &[Option<Entry>; 20], all: bool, bar: f32) -> Option<usize>
+    ensures { result ≡ first_from bar (residuals all entries.now) 0 entry_count }
 {
-    let place = place_within(&entries, all, bar)?;
+    let place = place_within(entries, all, bar)?;
     Some(place + 1)
 }
 
@@ -137,8 +137,8 @@ fn first_within(entries: [Option<Entry>; 20], all: bool, bar: f32) -> Option<usi
 pub fn shortest_tied(entries: [Option<Entry>; 20], share: f32, all: bool) -> Option<usize>
     ensures { result ≡ shortest_tied share all entries }
 {
-    let least = least_residual(entries, all)?;
-    first_within(entries, all, least + share * least)
+    let least = least_residual(&entries, all)?;
+    first_within(&entries, all, least + share * least)
 }
 
 // The shortest tied of the fits whose effect is above 0; where there is none, of all.

@@ -30,12 +30,12 @@ fn is_uneven(band: Band, dt: f32) -> bool
     }
 }
 
-// Whether 10 turns a call back.
-#[tactic(auto, unfolding(crate::specs::Band::turns_back))]
+// Whether 10 turns a call back. The band first: a plain probe has none, and its dt is not tested here.
+#[tactic(auto, unfolding(crate::specs::Band::turns_back), using(crate::proofs::Guarded::none_back))]
 fn turns_back(band: Band, running: bool, dt: f32) -> bool
     ensures { result ≡ turns_back band running dt }
 {
-    running & (rules::is_positive(dt) & is_uneven(band, dt))
+    is_uneven(band, dt) && (running & rules::is_positive(dt))
 }
 
 // The first dt after an accepted call of a probe that ran or had ended.

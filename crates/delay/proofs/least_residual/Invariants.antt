@@ -4,4 +4,4 @@ use Rattle.delay.specs.Tie.{residuals, least_to}
 use Rattle.delay.proofs.least_residual.Given as goal
 
 abbrev pub invariant-loop-entry : goal.invariant-loop-entry
-invariant-loop-entry l = l.least ≡ least_to (residuals l.all l.entry-items) l.entry-index
+invariant-loop-entry l = l.least ≡ least_to (residuals l.all l.entries) l.entry-index
