@@ -109,7 +109,7 @@ extern "C" {
  * Answers 0, or a number, and then no byte is written: 1 to 5, or 9 where config is not 24 bytes, calls are not a multiple of
  * 12 or the output is too short. A call that 6, 7 or 8 turns back changes nothing, and the run goes on.
  *
- * It takes up to 68,800 bytes of stack. A call within a run takes some nanoseconds, but the one at which a fit falls due up
+ * It takes up to 68,400 bytes of stack. A call within a run takes some nanoseconds, but the one at which a fit falls due up
  * to some milliseconds, all within this function.
  */
 uint32_t identify_byte_run(const uint8_t *config, size_t config_len, const uint8_t *calls, size_t calls_len, uint8_t *output,
@@ -173,7 +173,7 @@ uint32_t identify_two_axis_run(const uint8_t *config, size_t config_len, const u
 
 /* The most stack that a call of a function below takes, in bytes, for one probe or a pair: that of a step at which a fit falls
  * due. */
-#define IDENTIFY_STACK 50700
+#define IDENTIFY_STACK 50100
 
 /* The size of a probe, in bytes. */
 #define IDENTIFY_PROBE_SIZE 26720

@@ -18,21 +18,15 @@ part : (at n : ℕ) → (at + n) - at ≡ n
 part at n = omega arith
 
 -- a call read from its part of all calls, whose answer is copied to its part of the output
-module _ {F : Type 0} (s : Sizes) (S : Stand F) (A : Answers) (calls : List ℕ) (k : ℕ) where
-  abbrev from : ℕ
-  from = s.call * k
-
-  abbrev at : ℕ
-  at = s.report + s.answer * k
-
+module _ {F : Type 0} (s : Sizes) (S : Stand F) (A : Answers) (calls : List ℕ) (k from at : ℕ) (begin : from ≡ s.call * k) (place : at ≡ s.report + s.answer * k) where
   pub flies_on : {old new : F} (answer before : List ℕ) → length answer ≡ length (mid_of at ((at + s.answer) - at) before) → at + s.answer ≤ length before
       → StepsOn s.call S A old new (take ((from + s.call) - from) (drop from calls)) answer
       → (c : IdentifyConfig) → FliesOn s S A c calls k old new before (put_mid at ((at + s.answer) - at) before answer)
   flies_on answer before same room steps c output fits stands few is =
-      let next = steps c calls k stands (ap (λ (n : ℕ). take n (drop from calls)) (part from s.call)) in
+      let next = steps c calls k stands (ap (λ (n : ℕ). take n (drop from calls)) (part from s.call) ∙ ap (λ (i : ℕ). take s.call (drop i calls)) begin) in
       let long : length answer ≡ s.answer = same ∙ mid_len at (at + s.answer) before room ∙ part at s.answer in
       let there : put_mid at ((at + s.answer) - at) before answer ≡ written_at at answer before = copied at _ answer before (long ∙ sym (part at s.answer)) in
-      (next.0, rw (next.1, length-append, few, long, mul-suc), there ∙ rw (is, next.1) (rw few at (written_next s.report (A c calls k) answer output (rw few fits))))
+      (next.0, rw (next.1, length-append, few, long, mul-suc), there ∙ rw (place, is, next.1) (rw few at (written_next s.report (A c calls k) answer output (rw few fits))))
 
 -- the next answer, behind those of the calls before it, is within the room for all
 pub room : (report answer n k size : ℕ) → k < n → report + answer * n ≤ size → report + answer * k + answer ≤ size

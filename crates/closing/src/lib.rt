@@ -117,12 +117,12 @@ fn running(elapsed_s: f32) -> Stand
     unfitted(IdentifyStatus::Running(elapsed_s))
 }
 
-// Where a probe stands at now_s: running before duration_s, and from then on where the class of its window leads.
+// Where a probe stands at now_s: running with its end time ahead, else where the class of its window leads.
 #[tactic(auto, unfolding(crate::specs::Ending::stands_by, account::specs::Probe::stands))]
-fn stand_at(now_s: f32, duration_s: f32, class: Classified, readings: Readings<'_>) -> Stand
-    ensures { result ≡ stand_of (stands_by (lt now_s duration_s) now_s class readings.entry.window readings.entry.rates.now readings.entry.moments.now) }
+fn stand_at(now_s: f32, ahead: bool, class: Classified, readings: Readings<'_>) -> Stand
+    ensures { result ≡ stand_of (stands_by ahead now_s class readings.entry.window readings.entry.rates.now readings.entry.moments.now) }
 {
-    if now_s < duration_s {
+    if ahead {
         return running(now_s);
     }
     finish(class, readings)
@@ -187,14 +187,16 @@ fn end_by(class: Classified, asked: bool, tick: Tick, readings: Readings<'_>) ->
     ensures { result ≡ ended_by (takes asked class tick.noisy) class tick.now_s readings.entry.window tick.end_s tick.noisy tick.sweep readings.entry.rates.now readings.entry.moments.now }
 {
     let extension = taken_extension(asked, class, tick.noisy);
+    let ahead = extension.is_some_and(|x| tick.now_s < x.duration_s);
+    let stand = stand_at(tick.now_s, ahead, class, readings);
     let Some(x) = extension else {
-        return tick.ended(finish(class, readings));
+        return tick.ended(stand);
     };
     Ending {
         duration_s: x.duration_s,
         noisy: None,
         sweep: tick.sweep.with_amplitude(x.amplitude),
-        stand: stand_at(tick.now_s, x.duration_s, class, readings),
+        stand,
     }
 }
 

@@ -59,7 +59,7 @@ pub fn write_word(out: &mut [u8], at: usize, word: u32)
 pub fn write_float(out: &mut [u8], at: usize, x: f32)
     ensures { out.new ≡ written_within at (bytes_of 4 (word_of x)) out.old }
 {
-    write_word(out, at, float::to_word(x));
+    write_word(out, at, x.word());
 }
 
 // What is written as a word.
@@ -68,6 +68,13 @@ pub trait Word: Copy + Drop {
 
     fn word(self) -> u32
         ensures { result ≡ word self };
+
+    // Its bytes from byte `at` on, where they fit.
+    fn write(self, out: &mut [u8], at: usize)
+        ensures { out.new ≡ written_within at (bytes_of 4 (word self)) out.old }
+    {
+        write_word(out, at, self.word());
+    }
 }
 
 impl Word for u32 {
@@ -84,6 +91,10 @@ impl Word for f32 {
     fn word(self) -> u32 {
         float::to_word(self)
     }
+
+    fn write(self, out: &mut [u8], at: usize) {
+        write_float(out, at, self);
+    }
 }
 
 // Words or floats from byte `at` on, one word after another, each where it fits.
@@ -94,6 +105,6 @@ pub fn write_words<W: Word>(out: &mut [u8], at: usize, values: &[W])
 {
     // By places: after a loop over `chunks_exact_mut(4)` zipped with the values a proof does not know what the bytes are.
     for (k, value) in values.iter().enumerate() {
-        write_word(out, at.saturating_add(k.saturating_mul(4)), value.word());
+        value.write(out, at.saturating_add(k.saturating_mul(4)));
     }
 }

@@ -15,7 +15,7 @@ loop-k-preserved g c =
     let inside : k < length xs = omega arith in
     let passed : length (map g.W.Word.word (take k xs)) ≡ k = simp (length-map, length-take) (omega arith) in
     let place : c.saturating_add.result ≡ min (c.args.at + 4 * k) 18446744073709551615 = omega arith in
-    rw (c.write_word.ensures, place, saturated _ 18446744073709551615 _ c.loop-k.out (omega arith), c.loop-k.invariant, c.word.ensures, add-one, take-suc xs k x, ← c.index-values-k.is, map-append, words_next, passed)
+    rw (c.write.ensures, place, saturated _ 18446744073709551615 _ c.loop-k.out (omega arith), c.loop-k.invariant, add-one, take-suc xs k x, ← c.index-values-k.is, map-append, words_next, passed)
 
 pub returns : goal.returns
 returns g c =
