@@ -83,6 +83,12 @@ def defined(name):
     return int(re.search(rf"#define {name} (\d+)", HEADER.read_text(encoding="utf8"))[1])
 
 
+def said_of_run(begins):
+    """The bytes of stack that the header says a run over bytes takes, by how its comment begins."""
+    text = HEADER.read_text(encoding="utf8")
+    return int(re.search(rf"{begins}.*?It takes up to ([\d,]+) bytes of stack", text, re.DOTALL)[1].replace(",", ""))
+
+
 def readme_lines(place):
     """The README's lines of C at a place among them."""
     return re.findall(r"```c\n(.*?)```", (ROOT / "README.md").read_text(encoding="utf8"), re.DOTALL)[place]

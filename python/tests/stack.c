@@ -1,4 +1,4 @@
-/* The stack that the functions of a probe in flight take, for test_live.py: see stack.h. */
+/* The stack that the functions of a probe in flight take, and a byte run, for test_live.py: see stack.h. */
 #define _DEFAULT_SOURCE
 #include "identify.h"
 
@@ -35,9 +35,18 @@ static void report_of_probe(last_call *call)
     identify_report(&call->probe, call->report);
 }
 
+static void run_bytes(last_call *call)
+{
+    static uint8_t output[36 + 4 * MOST_CALLS];
+    (void)call;
+    must(identify_byte_run(input, CONFIG, input + CONFIG, input_len - CONFIG, output, sizeof output) == 0, "run");
+    must(output[0] >> 6 == 1, "it is done");
+}
+
 static const named *others_measured(void)
 {
-    static const named all[] = {{"status", status_of_probe}, {"report", report_of_probe}, {"open", open_probe}, {NULL, NULL}};
+    static const named all[] = {{"status", status_of_probe}, {"report", report_of_probe}, {"open", open_probe},
+                                {"run", run_bytes}, {NULL, NULL}};
     return all;
 }
 

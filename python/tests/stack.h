@@ -3,8 +3,9 @@
  *
  *     stack measure        a line each: a name, and the bytes that the function takes on a painted stack
  *     stack exact BYTES    makes the last call in a thread that has this much stack for it, and no page after it
+ *     stack run BYTES      makes the run over bytes in such a thread
  *
- * Both count from the stack pointer at the call. What the calling thread itself has used by then is found by a call that does
+ * All count from the stack pointer at the call. What the calling thread itself has used by then is found by a call that does
  * nothing but look where its own frame begins.
  *
  * The program that includes this has the type last_call with a field stack_pointer, and the functions and the list below.
@@ -30,6 +31,8 @@ static void fly(void);
 /* The last call, and that it made the integrated fit. */
 static looked_at step_last;
 static void must_be_fitted(void);
+/* The whole flight, over bytes. */
+static looked_at run_bytes;
 /* What else is measured, after that call. */
 static const named *others_measured(void);
 
@@ -141,15 +144,13 @@ static const uint8_t *call_in_thread(looked_at *what, size_t size)
     return pages + GUARD + size;
 }
 
-static void call_with(size_t bytes)
+static void call_with(looked_at *what, size_t bytes)
 {
     const uint8_t *end = call_in_thread(nothing, LARGE);
     const size_t used = (size_t)(end - it.stack_pointer);
     const size_t size = used + bytes;
     /* A thread's own data lie at the end of its stack, at a multiple of ALIGNMENT. */
-    call_in_thread(step_last, (size + ALIGNMENT - 1) / ALIGNMENT * ALIGNMENT);
-    must_be_fitted();
-    puts("done");
+    call_in_thread(what, (size + ALIGNMENT - 1) / ALIGNMENT * ALIGNMENT);
 }
 
 int main(int count, char **words)
@@ -157,9 +158,14 @@ int main(int count, char **words)
     fly();
     if (count == 2 && strcmp(words[1], "measure") == 0)
         measure();
-    else if (count == 3 && strcmp(words[1], "exact") == 0)
-        call_with(strtoul(words[2], NULL, 10));
-    else
+    else if (count == 3 && strcmp(words[1], "exact") == 0) {
+        call_with(step_last, strtoul(words[2], NULL, 10));
+        must_be_fitted();
+        puts("done");
+    } else if (count == 3 && strcmp(words[1], "run") == 0) {
+        call_with(run_bytes, strtoul(words[2], NULL, 10));
+        puts("done");
+    } else
         must(0, "a known word");
     return 0;
 }

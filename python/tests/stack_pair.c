@@ -36,7 +36,6 @@ static void report_of_pair(last_call *call)
     identify_pair_report(&call->pair, call->report);
 }
 
-/* The whole flight, over bytes. */
 static void run_bytes(last_call *call)
 {
     static uint8_t output[77 + 8 * MOST_CALLS];

@@ -11,10 +11,10 @@ from pathlib import Path
 from flights import demo_columns
 from programs import (
     EXAMPLES, HERE, STANDARDS, STATUS, MemoryTest, built, built_once, built_stack, defined, does_compile, logged,
-    measured_stack, ran, readme_lines, stack, status_of, words_of,
+    measured_stack, ran, readme_lines, said_of_run, stack, status_of, words_of,
 )
 import steady
-from support import HEADER, M1_CONFIG, ROOT, identify, live_library, made_flight
+from support import HEADER, M1_CONFIG, ROOT, byte_library, identify, live_library, made_flight
 
 from identify import probe, wire
 from identify.records import Config, Ending, Extension
@@ -309,28 +309,34 @@ class Memory(MemoryTest):
 
 
 class Stack(unittest.TestCase):
-    """The call at which the fit of a full, noisy window falls due takes no more stack than the header says."""
+    """The call at which the fit of a full, noisy window falls due, and the run over its bytes, take no more than the header says."""
 
     @classmethod
     def setUpClass(cls):
-        cls.program = built_stack(cls, [live_library()], "stack.c")
+        cls.program = built_stack(cls, [live_library(), byte_library()], "stack.c")
         cls.given = packed(*full_noisy_flight())
         cls.limit = defined("IDENTIFY_STACK")
+        cls.run_limit = said_of_run("Runs a probe")
 
     def test_measured(self):
         taken = measured_stack(self.program, self.given)
+        run = taken.pop("run")
         self.assertEqual(set(taken), {"open", "step", "status", "report"})
         self.assertEqual(max(taken, key=taken.get), "step")
         self.assertLessEqual(taken["step"], self.limit)
         self.assertGreater(taken["step"], self.limit - 4096, "the header says a page more than the call takes")
+        self.assertLessEqual(run, self.run_limit)
+        self.assertGreater(run, self.run_limit - 4096, "the header says a page more than the run takes")
 
     def test_a_thread_with_just_that_much(self):
         self.assertEqual(stack(self.program, "exact", str(self.limit), given=self.given), ["done"])
+        self.assertEqual(stack(self.program, "run", str(self.run_limit), given=self.given), ["done"])
 
     def test_a_thread_with_less_ends(self):
-        taken = measured_stack(self.program, self.given)["step"]
-        with self.assertRaisesRegex(subprocess.CalledProcessError, "SIGSEGV"):
-            stack(self.program, "exact", str(taken - 256), given=self.given)
+        taken = measured_stack(self.program, self.given)
+        for word, name in (("exact", "step"), ("run", "run")):
+            with self.subTest(name), self.assertRaisesRegex(subprocess.CalledProcessError, "SIGSEGV"):
+                stack(self.program, word, str(taken[name] - 256), given=self.given)
 
 
 class Arithmetic(unittest.TestCase):

@@ -3,7 +3,6 @@ import functools
 import json
 import math
 import random
-import re
 import struct
 import subprocess
 import tempfile
@@ -13,7 +12,7 @@ from pathlib import Path
 from flights import demo_columns, lengthened, paired, roll_pitch
 from programs import (
     EXAMPLES, STANDARDS, STATUS, MemoryTest, built, built_once, built_stack, defined, does_compile, logged, measured_stack, ran,
-    readme_lines, stack, status_of, words_of,
+    readme_lines, said_of_run, stack, status_of, words_of,
 )
 import steady
 from support import (
@@ -367,6 +366,7 @@ class Stack(unittest.TestCase):
         cls.program = built_stack(cls, [pair_library(), two_axis_library()], "stack_pair.c")
         cls.given = packed(*full_noisy_flight())
         cls.limit = defined("IDENTIFY_STACK")
+        cls.run_limit = said_of_run("Runs a pair,")
 
     def test_measured(self):
         taken = measured_stack(self.program, self.given)
@@ -375,13 +375,12 @@ class Stack(unittest.TestCase):
         self.assertEqual(max(taken, key=taken.get), "step")
         self.assertLessEqual(taken["step"], self.limit)
         self.assertGreater(taken["step"], self.limit - 4096, "the header says a page more than the call takes")
-        text = HEADER.read_text(encoding="utf8")
-        said = int(re.search(r"Runs a pair,.*?It takes up to ([\d,]+) bytes of stack", text, re.DOTALL)[1].replace(",", ""))
-        self.assertLessEqual(run, said)
-        self.assertGreater(run, said - 4096, "the header says a page more than the run takes")
+        self.assertLessEqual(run, self.run_limit)
+        self.assertGreater(run, self.run_limit - 4096, "the header says a page more than the run takes")
 
     def test_a_thread_with_just_that_much(self):
         self.assertEqual(stack(self.program, "exact", str(self.limit), given=self.given), ["done"])
+        self.assertEqual(stack(self.program, "run", str(self.run_limit), given=self.given), ["done"])
 
     def test_a_thread_with_less_ends(self):
         taken = measured_stack(self.program, self.given)["step"]
@@ -389,6 +388,11 @@ class Stack(unittest.TestCase):
             self.skipTest(f"a step takes {taken} bytes, and no thread has less")
         with self.assertRaisesRegex(subprocess.CalledProcessError, "SIGSEGV"):
             stack(self.program, "exact", str(taken - 256), given=self.given)
+
+    def test_a_run_in_a_thread_with_less_ends(self):
+        taken = measured_stack(self.program, self.given)["run"]
+        with self.assertRaisesRegex(subprocess.CalledProcessError, "SIGSEGV"):
+            stack(self.program, "run", str(taken - 256), given=self.given)
 
 
 @functools.cache
