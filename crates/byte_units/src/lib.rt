@@ -52,14 +52,14 @@ fn write_units(output: &mut [u8], units: Option<Plain>)
     ensures { output.new ≡ written_at 0 (word_bytes (unit_words units)) output.old }
 {
     match units {
-        None => wire::write_words(output, 0, &[0u32; 3]),
+        None => wire::write_values(output, 0, &[0u32; 3]),
         Some(plain) => {
             let words = [
                 1,
                 float::to_word(plain.lag_s),
                 float::to_word(plain.accel_radps2),
             ];
-            wire::write_words(output, 0, &words);
+            wire::write_values(output, 0, &words);
         }
     }
 }

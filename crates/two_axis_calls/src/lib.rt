@@ -63,5 +63,5 @@ pub fn run_call(
     ensures output { output.new ≡ words_within (answer_of probe.old lent1.old lent2.old (call_at bytes.now 0)).answer output.old }
 {
     let answer = probe.step(lent1, lent2, call_of(bytes));
-    wire::write_words(output, 0, &words_of(answer));
+    wire::write_values(output, 0, &words_of(answer));
 }

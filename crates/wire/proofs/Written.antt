@@ -2,14 +2,15 @@
 use Prim.Native.Nat.{ℕ, suc, min, ◌+◌, ◌-◌, ◌*◌, ◌≤◌, ◌<◌}
 use mathlib.Core.Path.{◌≡◌, sym, ◌∙◌}
 use mathlib.Core.Logic.{⊎_elim}
-use mathlib.Core.List.{List, [], ◌∷◌, ◌++◌, append_assoc, append-nil}
+use mathlib.Core.List.{List, [], ◌∷◌, ◌++◌, map, append_assoc, append-nil, map-append}
 use native.Mathlib.Nat.{zero-add, add-zero, add_assoc}
 use native.Mathlib.Omega.{arith}
 use borrow.Author.Tests.{le-leb, lt-leb}
 use borrow.Rule.Slice.PartMut.{put_mid}
 use Rattle.std.specs.Int.{w32, to_be_bytes}
-use lib.ListN.{length, take, drop, length-append, length-take, length-drop, take-append-drop}
-use lib.Seq.{take_at, drop_at, take-append-le, drop-append-add, drop-drop, drop-length, take-take}
+use lib.ListN.{length, get_or, take, drop, length-append, length-map, length-take, length-drop, take-append-drop}
+use lib.Seq.{take-suc, take_all, take_at, drop_at, take-append-le, drop-append-add, drop-drop, drop-length, take-take}
+use Rattle.std.proofs.Common.{add-one}
 use Rattle.std.proofs.lemmas.Bool.{cases_lt}
 use Rattle.wire.specs.Words.{bytes_of, word_bytes, written_at, written_within, words_within}
 use Rattle.wire.proofs.Bytes.{four_bytes, length_bytes, length_words, one_word, words_append}
@@ -115,3 +116,19 @@ words_fit i (w ∷ ws) l h =
     let long : length one ≡ length l = length_within i (bytes_of 4 w) l in
     words_fit (i + 4) ws one (omega arith)
     ∙ rw (word_within i w l (omega arith)) (rw (length_bytes 4 w) at (written_next i (bytes_of 4 w) (word_bytes ws) l (rw length_bytes (omega arith))))
+
+-- values written as words, one by one; the place is cut to n, which is past the end
+module _ {V : Type 0} (word : V → ℕ) (values : List V) (i : ℕ) (l : List ℕ) where
+  -- the next one
+  pub value_next : (n k p : ℕ) (x : V) (out : List ℕ) → p ≡ min (i + 4 * k) n → length out < n → k < length values → get_or values k x ≡ x → out ≡ words_within i (map word (take k values)) l
+      → written_within p (bytes_of 4 (word x)) out ≡ words_within i (map word (take (k + 1) values)) l
+  value_next n k p x out cut past inside at before =
+      let passed : length (map word (take k values)) ≡ k = simp (length-map, length-take) (omega arith) in
+      rw (cut, saturated _ n _ out past, before, add-one, take-suc values k x inside, at, map-append, words_next, passed)
+
+  -- all of them, and as one where they fit
+  pub values_each : (k : ℕ) (out : List ℕ) → k ≡ length values → out ≡ words_within i (map word (take k values)) l → out ≡ words_within i (map word values) l
+  values_each k out all before = rw (before, all, take_all (length values) values (omega arith))
+
+  pub values_fit : i + 4 * length values ≤ length l → words_within i (map word values) l ≡ written_at i (word_bytes (map word values)) l
+  values_fit fits = words_fit i (map word values) l (rw length-map fits)

@@ -5,6 +5,9 @@
 ghost use Rattle.std.specs.Prelude.{◌≡◌, ℕ, ◌+◌, ◌*◌, ◌≤◌, map, length, get_or};
 ghost use Rattle.wire.specs.Words.{bytes_of, word_bytes, word_of, word_at, float_at, written_at, written_within, words_within};
 
+#[cfg(test)]
+mod tests;
+
 // The byte at a place; 0 past the end.
 pub fn read_byte(bytes: &[u8], at: usize) -> u8
     ensures { result ≡ get_or bytes.now at 0 }
@@ -68,10 +71,13 @@ pub trait Word: Copy + Drop {
 
     fn word(self) -> u32
         ensures { result ≡ word self };
+}
 
+// What is written by a function of its own, as its word.
+pub trait Value: Word {
     // Its bytes from byte `at` on, where they fit.
     fn write(self, out: &mut [u8], at: usize)
-        ensures { out.new ≡ written_within at (bytes_of 4 (word self)) out.old }
+        ensures { out.new ≡ written_within at (bytes_of 4 (Self.word self)) out.old }
     {
         write_word(out, at, self.word());
     }
@@ -91,7 +97,11 @@ impl Word for f32 {
     fn word(self) -> u32 {
         float::to_word(self)
     }
+}
 
+impl Value for u32 {}
+
+impl Value for f32 {
     fn write(self, out: &mut [u8], at: usize) {
         write_float(out, at, self);
     }
@@ -104,6 +114,18 @@ pub fn write_words<W: Word>(out: &mut [u8], at: usize, values: &[W])
     ensures all { at + 4 * length values.now ≤ length out.old → out.new ≡ written_at at (word_bytes (map W.word values.now)) out.old }
 {
     // By places: after a loop over `chunks_exact_mut(4)` zipped with the values a proof does not know what the bytes are.
+    for (k, value) in values.iter().enumerate() {
+        write_word(out, at.saturating_add(k.saturating_mul(4)), value.word());
+    }
+}
+
+// The same, each value by its own function: a float by `write_float`.
+#[tactic(auto, unfolding(crate::specs::Words::words_within))]
+pub fn write_values<V: Value>(out: &mut [u8], at: usize, values: &[V])
+    ensures each { out.new ≡ words_within at (map V.word values.now) out.old }
+    ensures all { at + 4 * length values.now ≤ length out.old → out.new ≡ written_at at (word_bytes (map V.word values.now)) out.old }
+{
+    // By places, as `write_words`.
     for (k, value) in values.iter().enumerate() {
         value.write(out, at.saturating_add(k.saturating_mul(4)));
     }

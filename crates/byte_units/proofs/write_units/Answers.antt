@@ -6,8 +6,8 @@ use Rattle.byte_units.proofs.write_units.Goals as goal
 
 pub returns-in-None : goal.returns-in-None
 unfolding unit_words
-returns-in-None c = c.write_words.ensures.all (omega (arith, c.requires)) ∙ rw (map-id, c.in-None.is) refl
+returns-in-None c = c.write_values.ensures.all (omega (arith, c.requires)) ∙ rw (map-id, c.in-None.is) refl
 
 pub returns-in-Some : goal.returns-in-Some
 unfolding unit_words
-returns-in-Some c = c.write_words-in-Some.ensures.all (omega (arith, c.requires)) ∙ rw (map-id, c.to_word.ensures, c.to_word-in-Some.ensures, c.in-Some.is) refl
+returns-in-Some c = c.write_values-in-Some.ensures.all (omega (arith, c.requires)) ∙ rw (map-id, c.to_word.ensures, c.to_word-in-Some.ensures, c.in-Some.is) refl
